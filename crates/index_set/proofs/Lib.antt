@@ -1,0 +1,5 @@
+pub mod Places
+pub mod Apart
+pub mod Moves
+pub mod Stored
+pub mod Inserts

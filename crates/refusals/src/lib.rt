@@ -1,0 +1,5 @@
+// Why a call can be refused, and the number under which each reason is published.
+
+mod refusal;
+
+pub use refusal::Refusal;
