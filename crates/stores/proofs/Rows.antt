@@ -12,8 +12,8 @@ use Rattle.std.proofs.shelf.Tests.{cases-eq, cases-lt, lt-ltb, le-ltb}
 use Rattle.std.proofs.shelf.Ways.{tells}
 use Rattle.rows.specs.Numbers.{in-row, no-numbers, with-number, without-number}
 use Rattle.stores.specs.Pairs.{in-bounds, is-pair, with-pair, without-pair, no-pairs}
-use Rattle.rows.specs.Rows.{numbers}
-use Rattle.stores.specs.Rows.{row-pairs, empty-row}
+use Rattle.rows.specs.Rows.{numbers, empty-row}
+use Rattle.stores.specs.Rows.{row-pairs}
 use Rattle.rows.specs.declared.row.Row.{Row}
 use Rattle.rows.proofs.Bits.{bits-none}
 

@@ -11,8 +11,8 @@ use Rattle.std.proofs.shelf.Tests.{and-parts, and-from, or-cases, eqb-true, fal
 use Rattle.stores.specs.Listed.{listed}
 use Rattle.rows.specs.Numbers.{bits-of, in-row}
 use Rattle.stores.specs.Pairs.{in-bounds, is-pair}
-use Rattle.rows.specs.Rows.{numbers}
-use Rattle.stores.specs.Rows.{row-pairs, empty-row}
+use Rattle.rows.specs.Rows.{numbers, empty-row}
+use Rattle.stores.specs.Rows.{row-pairs}
 use Rattle.stores.specs.declared.pair.Pair.{Pair}
 use Rattle.rows.specs.declared.row.Row.{Row}
 

@@ -4,13 +4,9 @@ use mathlib.Core.List.{List}
 use Prim.Native.Nat.{ℕ}
 use lib.Dec.{ltb}
 use lib.ListN.{getD}
-use Rattle.rows.specs.Rows.{numbers}
+use Rattle.rows.specs.Rows.{numbers, empty-row}
 use Rattle.rows.specs.declared.row.Row.{Row}
 use Rattle.stores.specs.declared.bit_rows.BitRows.{BitRows}
-
--- the row with no number in it
-abbrev pub empty-row : Row
-empty-row = record { bits = 0 }
 
 -- whether the number b is in row a
 unfoldable pub row-pairs : List Row → ℕ → ℕ → Bool

@@ -9,10 +9,12 @@ use crate::pair_set::LEFTS;
 use crate::pair_set::PairSet;
 use rows::Row;
 
+const ROWS: usize = LEFTS as usize;
+
 // A set of pairs as a row of right numbers for each left number.
 #[derive(Clone, Copy)]
 pub struct BitRows {
-    rows: [Row; 64],
+    rows: [Row; ROWS],
 }
 
 impl BitRows {
@@ -21,7 +23,7 @@ impl BitRows {
         ensures { λ r. ⌜ pairs-in r ≡ no-pairs ⌝ }
     {
         BitRows {
-            rows: [Row::new(); 64],
+            rows: [Row::new(); ROWS],
         }
     }
 

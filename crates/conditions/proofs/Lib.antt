@@ -1,0 +1,5 @@
+mod Reports
+mod Timing
+mod Splits
+mod Slices
+mod Actives

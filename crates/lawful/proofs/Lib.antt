@@ -1,0 +1,5 @@
+pub mod Bounds
+pub mod Holding
+pub mod Keeping
+pub mod Slices
+pub mod Answering

@@ -1,0 +1,12 @@
+use borrow.Author.Needs.{needs}
+use Rattle.search.proofs.Somes.{some-none, some-more, some-answers}
+use Rattle.lawful.proofs.relations.holds_separated.Needs as need
+
+pub loop-other-holds : need.loop-other-holds
+loop-other-holds c = some-none _
+
+pub loop-other-again : need.loop-other-again
+loop-other-again c = some-more _ _ (c .loop-other .inv) (search needs)
+
+pub returns-then-contains-3 : need.returns-then-contains-3
+returns-then-contains-3 c = some-answers _ _ (c .loop-other .other) (c .loop-other-test .taken) (search needs)

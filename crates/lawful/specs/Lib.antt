@@ -1,0 +1,4 @@
+pub mod Tasks
+pub mod Breaking
+pub mod Keeping
+pub mod Checking

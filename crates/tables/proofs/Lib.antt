@@ -1,0 +1,2 @@
+pub mod Relating
+pub mod Counts

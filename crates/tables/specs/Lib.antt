@@ -1,0 +1,5 @@
+pub mod Limits
+pub mod Indices
+pub mod Sides
+pub mod Drafts
+pub mod Adding
