@@ -11,7 +11,7 @@ use Rattle.refusals.specs.Codes.{code-of}
 use Rattle.refusals.specs.declared.refusal.Refusal.{Refusal}
 use Rattle.search.specs.Below.{all-below}
 use Rattle.search.specs.Firsts.{first-pair}
-use Rattle.search.proofs.Finds.{pair-never, pair-clear}
+use Rattle.search.proofs.Finds.{pair-never, pair-clear, pair-at}
 use Rattle.search.proofs.Somes.{all-decides}
 use Rattle.std.proofs.shelf.Tests.{cases-lt, leb-true, both-ways}
 use Rattle.std.specs.Options.{isSome, Cases}
@@ -174,11 +174,16 @@ lawful : (d : Draft) → first-broken d all-rules ≡ None → Lawful d
 unfolding Place
 lawful d n rule = let p = place rule in kept-none d rule (ap (λ x. breach-of d x) (sym (p .2)) ∙ none-at d all-rules n (p .0) (p .1))
 
+-- a broken rule has a pair that breaks it
+witness : (d : Draft) (q : Rule) → (o : Option (ℕ × ℕ)) → breach-of d q ≡ o → (breach-of d q ≡ None → ⊥) → (l : ℕ) × (r : ℕ) × (breaks d q l r ≡ true)
+witness d q None e n = absurd (n e)
+witness d q (Some p) e n = (p .0, p .1, pair-at (breaks d q) (rows-of q) (columns-of q) p e .2)
+
 refused : (d : Draft) (q : Rule) → first-broken d all-rules ≡ Some q → Refused d (refusal-of q)
 unfolding Place
 refused d q e =
     let s = stands d all-rules q e in (
-      (q, refl, λ k. s .1 .2 (none-kept d q k)),
+      (q, refl, λ k. s .1 .2 (none-kept d q k), witness d q (breach-of d q) refl (s .1 .2)),
       λ rule h.
           let p = place rule in
           ⊎-elim

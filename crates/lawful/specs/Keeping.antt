@@ -16,6 +16,7 @@ use Rattle.tables.specs.declared.relation.Relation.the-variants.{UserRoles, Per
 use Rattle.tables.specs.declared.table.Table.{Table}
 use Rattle.tables.specs.declared.table.Table.the-variants.{Things, Permissions, RolePairs, Entries}
 use Rattle.tables.specs.declared.table.Thing.the-variants.{Role, Device, Operation, Condition, EnvironmentRole}
+use Rattle.lawful.specs.Breaking.{breaks}
 use Rattle.lawful.specs.Checking.{refusal-of}
 use Rattle.lawful.specs.Tasks.{Tasks-apart}
 use Rattle.lawful.specs.declared.rule.Rule.{Rule}
@@ -50,9 +51,12 @@ Keeps d NothingBarred = (q e p : ℕ) → In d RolePairAssignment q e → In d P
 abbrev pub Lawful : Draft → Type 0
 Lawful d = (rule : Rule) → Keeps d rule
 
--- Why a draft is refused: a rule with this refusal is not kept, and every rule whose refusal has a lower number is.
+-- Why a draft is refused: a rule with this refusal is not kept, as this pair of numbers shows, and every rule whose
+-- refusal has a lower number is.
 abbrev pub Refused : Draft → Refusal → Type 0
-Refused d g = ((rule : Rule) × (refusal-of rule ≡ g) × (Keeps d rule → ⊥)) × ((rule : Rule) → code-of (refusal-of rule) < code-of g → Keeps d rule)
+Refused d g =
+    ((rule : Rule) × (refusal-of rule ≡ g) × (Keeps d rule → ⊥) × ((l : ℕ) × (r : ℕ) × (breaks d rule l r ≡ true)))
+    × ((rule : Rule) → code-of (refusal-of rule) < code-of g → Keeps d rule)
 
 -- what the check's answer says of the draft
 abbrev pub Says : Draft → Result Unit Refusal → Type 0

@@ -17,8 +17,11 @@ use crate::rule::Rule;
 use search::PairTest;
 use search::first_hit;
 use stores::BitRowsPairSet;
+use stores::LEFTS;
 use stores::PairSet;
+use stores::RIGHTS;
 use tables::Draft;
+use tables::LIST_LIMIT;
 use tables::Relation;
 
 // The largest number of a house.
@@ -67,12 +70,16 @@ impl Rule {
     {
         match self {
             Rule::WithinLimit(_) | Rule::NumberInRange => (1, 1),
-            Rule::PermissionsDeclared | Rule::RolePairsDeclared | Rule::EntriesDeclared => (64, 1),
-            Rule::PermissionsApart | Rule::RolePairsApart | Rule::TasksApart(_) => (64, 64),
+            Rule::PermissionsDeclared | Rule::RolePairsDeclared | Rule::EntriesDeclared => (
+                LIST_LIMIT,
+                1,
+            ),
+            Rule::PermissionsApart | Rule::RolePairsApart => (LIST_LIMIT, LIST_LIMIT),
+            Rule::TasksApart(_) => (LEFTS, LEFTS),
             Rule::PairsDeclared(_)
             | Rule::RolesSeparate
             | Rule::NothingProhibited
-            | Rule::NothingBarred => (64, 32),
+            | Rule::NothingBarred => (LEFTS, RIGHTS),
         }
     }
 }

@@ -3,7 +3,9 @@ ghost use Rattle.lawful.specs.Breaking.{pair-undeclared, separated, shared, re
 use crate::task::Task;
 use stores::BitRowsPairSet;
 use stores::PairSet;
+use stores::RIGHTS;
 use tables::Draft;
+use tables::LIST_LIMIT;
 use tables::Relation;
 use tables::Table;
 
@@ -25,7 +27,7 @@ pub fn holds_separated(draft: &Draft, user: u32, role: u32) -> bool
 {
     let roles = draft.relation(Relation::UserRoles);
     let pairs = draft.relation(Relation::StaticSeparation);
-    for other in 0..32 {
+    for other in 0..RIGHTS {
         if roles.contains(user, other)
             && (pairs.contains(role, other) || pairs.contains(other, role))
         {
@@ -52,7 +54,7 @@ pub fn is_reached(draft: &Draft, role: u32, permission: u32) -> bool
     let device_roles = draft
         .relation(Relation::PermissionAssignment)
         .row(permission);
-    for place in 0..64 {
+    for place in 0..LIST_LIMIT {
         if draft.role_pairs[place as usize].role == role
             && assigned.row(place).meets(device_roles)
         {

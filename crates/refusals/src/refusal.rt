@@ -3,7 +3,7 @@ ghost use Rattle.refusals.specs.Codes.{code-of};
 
 // Each reason for which a call can be refused, in the order in which they are tested.
 // A reason found in a text carries its place: the offset of a byte.
-#[derive(Clone, Copy, Debug)]
+#[derive(Clone, Copy)]
 pub enum Refusal {
     LineTooShort,
     MemoryTooShort,

@@ -9,14 +9,13 @@ use Rattle.refusals.specs.declared.refusal.Refusal.the-variants.{AlreadyDeclare
 use Rattle.rows.specs.Numbers.{beyond}
 use Rattle.rows.specs.Rows.{numbers}
 use Rattle.search.specs.Below.{some-below}
-use Rattle.search.specs.Firsts.{first-below}
 use Rattle.std.specs.Options.{isSome}
 use Rattle.std.specs.declared.result.Result.{Result}
 use Rattle.std.specs.declared.result.Result.the-variants.{Ok, Err}
 use Rattle.stores.specs.Pairs.{with-pair}
-use Rattle.tables.specs.Drafts.{things, count, declared, is-permission}
+use Rattle.tables.specs.Drafts.{things, count, declared, permission-of}
 use Rattle.tables.specs.Indices.{thing-index, relation-index}
-use Rattle.tables.specs.Limits.{thing-limit}
+use Rattle.tables.specs.Limits.{table-limit}
 use Rattle.tables.specs.Sides.{left-of, right-of}
 use Rattle.tables.specs.declared.draft.Draft.{Draft}
 use Rattle.tables.specs.declared.parts.Entry.{Entry}
@@ -33,17 +32,17 @@ abbrev pub unless : {A : Type 0} → Bool → Refusal → Result A Refusal → R
 unless applies reason rest = cond applies (Err reason) rest
 
 -- the number of the next item of a list, unless the list is full
-abbrev pub next-of : ℕ → ℕ → Result ℕ Refusal
-next-of n limit = unless (leb limit n) (TableFull 0) (Ok n)
+abbrev pub next-of : Draft → Table → Result ℕ Refusal
+next-of d t = unless (leb (table-limit t) (count d t)) (TableFull 0) (Ok (count d t))
 
 abbrev pub declaring : Draft → Thing → Result ℕ Refusal
-declaring d t = next-of (things d t) (thing-limit t)
+declaring d t = next-of d (Things t)
 
 abbrev pub adding-permission : Draft → Permission → Result ℕ Refusal
 adding-permission d p =
-    unless (isSome (first-below (is-permission d (p .device) (p .operation)) 64)) (AlreadyDeclared 0)
+    unless (isSome (permission-of d (p .device) (p .operation))) (AlreadyDeclared 0)
     (unless (not (declared d (Things Device) (p .device) && declared d (Things Operation) (p .operation))) (NotDeclared 0)
-    (next-of (d .«permission_count») 64))
+    (next-of d Permissions))
 
 -- a number of the set is not below n
 abbrev pub goes-beyond : (ℕ → Bool) → ℕ → Bool
@@ -52,12 +51,12 @@ goes-beyond s n = some-below (beyond s n) 32
 abbrev pub adding-role-pair : Draft → RolePair → Result ℕ Refusal
 adding-role-pair d q =
     unless (not (declared d (Things Role) (q .role)) || goes-beyond (numbers (q .«environment_roles»)) (things d EnvironmentRole)) (NotDeclared 0)
-    (next-of (d .«role_pair_count») 64)
+    (next-of d RolePairs)
 
 abbrev pub adding-entry : Draft → Entry → Result ℕ Refusal
 adding-entry d e =
     unless (not (declared d (Things EnvironmentRole) (e .«environment_role»)) || goes-beyond (numbers (e .conditions)) (things d Condition)) (NotDeclared 0)
-    (next-of (d .«entry_count») 64)
+    (next-of d Entries)
 
 abbrev pub relating : Draft → Relation → ℕ → ℕ → Result Unit Refusal
 relating d r a b = unless (not (declared d (left-of r) a && declared d (Things (right-of r)) b)) (NotDeclared 0) (Ok tt)

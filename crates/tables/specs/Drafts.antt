@@ -5,6 +5,8 @@ use mathlib.Core.Path.{_≡_}
 use Prim.Native.Nat.{ℕ}
 use lib.Dec.{eqb, ltb}
 use lib.ListN.{getD, take}
+use Rattle.search.specs.Firsts.{first-below}
+use Rattle.std.specs.declared.option.Option.{Option}
 use Rattle.stores.specs.Pairs.{no-pairs}
 use Rattle.stores.specs.Rows.{pairs-in}
 use Rattle.stores.specs.declared.bit_rows.BitRows.{BitRows}
@@ -55,6 +57,10 @@ entries-of d = take (d .«entry_count») (d .entries)
 -- whether p is a permission, and that of the device and the operation
 abbrev pub is-permission : Draft → ℕ → ℕ → ℕ → Bool
 is-permission d device operation p = declared d Permissions p && (eqb (permission-at d p .device) device && eqb (permission-at d p .operation) operation)
+
+-- the number of the permission of the device and the operation: the first that is
+abbrev pub permission-of : Draft → ℕ → ℕ → Option ℕ
+permission-of d device operation = first-below (is-permission d device operation) (table-limit Permissions)
 
 -- In words: no list has an item, no relation a pair, and the house number is 0.
 abbrev pub Empty : Draft → Type 0

@@ -8,6 +8,7 @@ use crate::parts::Entry;
 use crate::parts::Permission;
 use crate::parts::RolePair;
 use crate::relation::Relation;
+use crate::table::LIST_LIMIT;
 use crate::table::Table;
 use crate::table::Thing;
 use refusals::Refusal;
@@ -46,7 +47,7 @@ impl Draft {
             return Err(Refusal::NotDeclared { at: 0 });
         }
         let number = self.permission_count;
-        if number >= 64 {
+        if number >= LIST_LIMIT {
             return Err(Refusal::TableFull { at: 0 });
         }
         self.permissions[number as usize] = permission;
@@ -67,7 +68,7 @@ impl Draft {
             return Err(Refusal::NotDeclared { at: 0 });
         }
         let number = self.role_pair_count;
-        if number >= 64 {
+        if number >= LIST_LIMIT {
             return Err(Refusal::TableFull { at: 0 });
         }
         self.role_pairs[number as usize] = role_pair;
@@ -91,7 +92,7 @@ impl Draft {
             return Err(Refusal::NotDeclared { at: 0 });
         }
         let number = self.entry_count;
-        if number >= 64 {
+        if number >= LIST_LIMIT {
             return Err(Refusal::TableFull { at: 0 });
         }
         self.entries[number as usize] = entry;

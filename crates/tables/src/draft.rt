@@ -1,7 +1,10 @@
 use crate::parts::Entry;
 use crate::parts::Permission;
 use crate::parts::RolePair;
+use crate::table::LIST_LIMIT;
 use stores::BitRows;
+
+pub const PLACES: usize = LIST_LIMIT as usize;
 
 // The lists, the relations and the number of a house before it opens. It may hold anything, lawful or not.
 #[derive(Clone, Copy)]
@@ -11,11 +14,11 @@ pub struct Draft {
     pub counts: [u32; 8],
     // of each list the first so many count
     pub permission_count: u32,
-    pub permissions: [Permission; 64],
+    pub permissions: [Permission; PLACES],
     pub role_pair_count: u32,
-    pub role_pairs: [RolePair; 64],
+    pub role_pairs: [RolePair; PLACES],
     pub entry_count: u32,
-    pub entries: [Entry; 64],
+    pub entries: [Entry; PLACES],
     // by the index of each relation
     pub relations: [BitRows; 12],
 }

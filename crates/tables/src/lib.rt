@@ -12,5 +12,6 @@ pub use parts::Entry;
 pub use parts::Permission;
 pub use parts::RolePair;
 pub use relation::Relation;
+pub use table::LIST_LIMIT;
 pub use table::Table;
 pub use table::Thing;

@@ -1,12 +1,13 @@
 ghost use mathlib.Core.Path.{_≡_};
-ghost use Rattle.search.specs.Firsts.{first-below};
 ghost use Rattle.stores.specs.Rows.{pairs-in};
-ghost use Rattle.tables.specs.Drafts.{count, declared, related, entries-of, is-permission, Empty};
+ghost use Rattle.tables.specs.Drafts.{count, declared, related, entries-of, is-permission, permission-of, Empty};
 use crate::draft::Draft;
+use crate::draft::PLACES;
 use crate::parts::Entry;
 use crate::parts::Permission;
 use crate::parts::RolePair;
 use crate::relation::Relation;
+use crate::table::LIST_LIMIT;
 use crate::table::Table;
 use crate::table::Thing;
 use stores::BitRows;
@@ -25,17 +26,17 @@ impl Draft {
             permissions: [Permission {
                 device: 0,
                 operation: 0,
-            }; 64],
+            }; PLACES],
             role_pair_count: 0,
             role_pairs: [RolePair {
                 role: 0,
                 environment_roles: row,
-            }; 64],
+            }; PLACES],
             entry_count: 0,
             entries: [Entry {
                 environment_role: 0,
                 conditions: row,
-            }; 64],
+            }; PLACES],
             relations: [BitRows::new(); 12],
         }
     }
@@ -70,7 +71,7 @@ impl Draft {
     pub fn listed_entries(&self) -> &[Entry]
         ensures { λ r. ⌜ now r ≡ entries-of (now (self .entry)) ⌝ }
     {
-        let count = self.entry_count.min(64) as usize;
+        let count = self.entry_count.min(LIST_LIMIT) as usize;
         &self.entries[0..count]
     }
 
@@ -87,9 +88,9 @@ impl Draft {
 
     // The number of the permission for an operation of a device.
     pub fn permission_number(&self, device: u32, operation: u32) -> Option<u32>
-        ensures { λ r. ⌜ r ≡ first-below (is-permission (now (self .entry)) device operation) 64 ⌝ }
+        ensures { λ r. ⌜ r ≡ permission-of (now (self .entry)) device operation ⌝ }
     {
-        for number in 0..64 {
+        for number in 0..LIST_LIMIT {
             if self.is_permission(number, device, operation) {
                 return Some(number);
             }

@@ -36,6 +36,9 @@ impl Thing {
     }
 }
 
+// The most permissions, role pairs or entries that a house can have.
+pub const LIST_LIMIT: u32 = 64;
+
 // The lists of a draft.
 #[derive(Clone, Copy)]
 pub enum Table {
@@ -52,7 +55,7 @@ impl Table {
     {
         match self {
             Table::Things(thing) => thing.limit(),
-            Table::Permissions | Table::RolePairs | Table::Entries => 64,
+            Table::Permissions | Table::RolePairs | Table::Entries => LIST_LIMIT,
         }
     }
 }
