@@ -2,4 +2,4 @@ mod Reports
 mod Timing
 mod Splits
 mod Slices
-mod Actives
+pub mod Actives

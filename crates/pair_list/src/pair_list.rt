@@ -55,7 +55,7 @@ pub impl<'a> PairSet for PairList<'a> as PairListPairSet {
         match self.list.insert(Pair { left, right }) {
             Insertion::Inserted(_) => true,
             Insertion::AlreadyThere(_) => false,
-            Insertion::Full => false,
+            Insertion::Full => unreachable(),
         }
     }
 

@@ -22,9 +22,8 @@ impl BitRows {
     pub fn new() -> BitRows
         ensures { λ r. ⌜ pairs-in r ≡ no-pairs ⌝ }
     {
-        BitRows {
-            rows: [Row::new(); ROWS],
-        }
+        let row = Row::new();
+        BitRows { rows: [row; ROWS] }
     }
 
     // The right numbers that stand with a left number: none for one out of bounds.

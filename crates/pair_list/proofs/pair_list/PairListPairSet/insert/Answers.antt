@@ -36,8 +36,8 @@ returns-in-AlreadyThere c =
     let n = listed-found (items-of (s .list)) (record { left = c .args .left; right = c .args .right }) _ (s .within) (t .words) in
     record { answer = rw (b, n); after = ap listed (t .items) ∙ sym (with-there _ _ _ n) }
 
-pub returns-in-Full : need.returns-in-Full
-returns-in-Full c =
+pub unreachable-requires : need.unreachable-requires
+unreachable-requires c κs =
     let s = c .args .self .now in
     let b = bounds-true (c .args .left) (c .args .right) (c .if-left-ge-LEFTS .left) (c .if-right-ge-RIGHTS .left) in
     let t = c .in-Full .ensures tt .words in

@@ -1,0 +1,9 @@
+pub mod Scanning
+pub mod Cutting
+pub mod Breaks
+pub mod Recording
+pub mod Progress
+pub mod Scans
+pub mod OneReading
+pub mod SomeReading
+pub mod ReadingBack

@@ -1,0 +1,10 @@
+mod Stepping
+mod Counting
+mod Sessions
+mod Sinces
+mod Histories
+mod Leases
+mod Afterwards
+mod Uses
+mod Ordering
+mod Ruling

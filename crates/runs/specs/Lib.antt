@@ -1,0 +1,4 @@
+pub mod Runs
+pub mod Histories
+pub mod Laws
+pub mod Law

@@ -1,0 +1,4 @@
+pub mod Numerals
+pub mod Spellings
+pub mod Sameness
+pub mod Refusing
