@@ -12,7 +12,7 @@ import sys
 
 NAME = r"[^\s(){}\[\];,.:\"«»⌜⌝λ@|]+"
 TOKEN = re.compile(r"(?<![^\s(){}\[\];,.:\"«»⌜⌝λ@|`'])" + r"[A-Za-z][A-Za-z0-9_'-]*[A-Za-z0-9_']" + r"(?![^\s(){}\[\];,.:\"«»⌜⌝λ@|`'])")
-DECLARED = re.compile(r"^\s*(?:(?:pub|abbrev|unfoldable|record|data|let)\s+)*([A-Za-z][A-Za-z0-9_'-]*)\s*:\s")
+DECLARED = re.compile(r"^\s*(?:(?:(?:pub|abbrev|unfoldable|record|data|let)\s+)*([A-Za-z][A-Za-z0-9_'-]*)\s*:\s|(?:pub\s+)?(?:record|data)\s+([A-Za-z][A-Za-z0-9_'-]*)\s*[({])")
 IMPORT = re.compile(r"^\s*(?:ghost\s+)?use\s+([^{;]+?)\.\{([^}]*)\}", re.M)
 
 
@@ -26,6 +26,10 @@ WITH_SUFFIX = """kind-of every-text-has-one-reading every-written-text-reads-bac
 leases-come-back cases-hold one-column-tells value-at set-from left-place right-place permission-place first-broken
 is-full permission-number is-permission goes-beyond reaches-barred read-on""".split()
 SPECIAL.update({name: name.replace("-", "_") + "_lem" for name in WITH_SUFFIX})
+
+
+# Variables of lemmas, which no line declares.
+VARIABLES = {"as-cut", "as-spot", "as-told", "as-way", "no-lf", "not-comma", "not-cr", "not-lf", "not-quote"}
 
 
 def camel(name):
@@ -56,7 +60,7 @@ def is_generated(file):
 
 def main():
     write = "--write" in sys.argv
-    own = set()
+    own = set(VARIABLES)
     local = collections.defaultdict(set)
     kept = collections.defaultdict(set)
     for file in texts():
@@ -69,9 +73,9 @@ def main():
             continue
         for line in text.splitlines():
             found = DECLARED.match(line)
-            if not found or "-" not in found.group(1):
+            name = found and (found.group(1) or found.group(2))
+            if not found or "-" not in name:
                 continue
-            name = found.group(1)
             if is_generated(file):
                 if re.search(r":\s*goal\.", line) or re.search(r":\s*given\.", line):
                     continue

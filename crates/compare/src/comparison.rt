@@ -14,8 +14,8 @@ pub struct Answers {
 }
 
 pub fn play<S: PairSet>(store: &mut S, step: Step) -> bool
-    ensures answer { result ≡ answer_to (pairs store.old) step }
-    ensures after { pairs store.new ≡ after_step (pairs store.old) step }
+    ensures answer { result ≡ answer_to (S.pairs store.old) step }
+    ensures after { S.pairs store.new ≡ after_step (S.pairs store.old) step }
 {
     match step {
         Step::Insert(pair) => store.insert(pair.left, pair.right),

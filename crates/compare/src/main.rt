@@ -1,5 +1,7 @@
 // Plays the same steps on a set of bit rows and on a pair list, and shows that the two agree.
 
+#![tactic(auto)]
+
 mod comparison;
 mod example;
 mod report;

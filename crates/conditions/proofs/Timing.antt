@@ -7,7 +7,7 @@ use Rattle.std.proofs.lemmas.Bool.Decides.{nat_tests}
 use Rattle.rows.specs.Numbers.{no_numbers}
 use Rattle.conditions.specs.Clocks.{window, no_windows, windows_in, timed_at, with_window}
 use Rattle.conditions.specs.Limits.{condition_count, is_condition, is_window}
-use Rattle.conditions.specs.Windows.{in_window, In-window}
+use Rattle.conditions.specs.Windows.{in_window, InWindow}
 use Rattle.conditions.specs.declared.window.Window.{Window}
 
 -- the window of a condition, and of any other number
@@ -58,7 +58,7 @@ module _ (ws : List Window) (n from to : ℕ) (l : length ws ≡ condition_count
       (cases_eq n k)
 
 -- what the answer to a minute says in words
-pub window_words : (m from to : ℕ) (r : Bool) → r ≡ in_window m from to → In-window m from to r
+pub window_words : (m from to : ℕ) (r : Bool) → r ≡ in_window m from to → InWindow m from to r
 window_words m from to r e = record { plain = λ h. (λ t. grind (arith, nat_tests), λ t. grind (arith, nat_tests)); across = λ h. (λ t. grind (arith, nat_tests), λ t. grind (arith, nat_tests)); never = λ h. grind (arith, nat_tests) }
 
 -- the answer to a number that is no condition, and to one that is
@@ -71,6 +71,6 @@ unfolding timed_at
 timed_in m ws k d r l h e =
     e ∙ ap (λ (w : Window). in_window m w.from w.to) (get_or_default ws k d (window 0 0) (omega arith) ∙ sym (window_at ws k h))
 
-pub timed_words : (m : ℕ) (ws : ℕ → Window) (k : ℕ) (r : Bool) → r ≡ timed_at m ws k → In-window m (ws k).from (ws k).to r
+pub timed_words : (m : ℕ) (ws : ℕ → Window) (k : ℕ) (r : Bool) → r ≡ timed_at m ws k → InWindow m (ws k).from (ws k).to r
 unfolding timed_at
 timed_words m ws k r e = window_words m (ws k).from (ws k).to r e

@@ -8,7 +8,7 @@ use tables::Entry;
 
 // Whether every condition of the set holds.
 fn all_hold<C: Conditions>(wanted: Row, source: &C) -> bool
-    ensures { result ≡ all_hold (numbers wanted) (holding source.now) }
+    ensures { result ≡ all_hold (numbers wanted) (C.holding source.now) }
 {
     for condition in 0..CONDITION_COUNT {
         if wanted.contains(condition) && !source.holds(condition) {
@@ -20,8 +20,8 @@ fn all_hold<C: Conditions>(wanted: Row, source: &C) -> bool
 
 // The environment roles that are active: each has an entry of which all conditions hold.
 pub fn active_roles<C: Conditions>(entries: &[Entry], source: &C) -> Row
-    ensures exact { numbers result ≡ active (holding source.now) entries.now }
-    ensures words { ActiveByOne (holding source.now) entries.now (numbers result) }
+    ensures exact { numbers result ≡ active (C.holding source.now) entries.now }
+    ensures words { ActiveByOne (C.holding source.now) entries.now (numbers result) }
 {
     match entries {
         [] => Row::new(),

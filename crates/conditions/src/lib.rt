@@ -1,5 +1,7 @@
 // What holds now, by condition; and the environment roles that it makes active.
 
+#![tactic(auto)]
+
 mod activation;
 mod condition_set;
 mod conditions;

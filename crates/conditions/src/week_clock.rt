@@ -3,7 +3,7 @@ ghost use Rattle.rows.specs.Numbers.{no_numbers};
 ghost use Rattle.conditions.specs.Bounded.{timed_bounded};
 ghost use Rattle.conditions.specs.Clocks.{minute_of, windows_of, timed, timed_at, no_windows, moved, with_window};
 ghost use Rattle.conditions.specs.Limits.{is_condition, is_minute, is_window, accepted_if};
-ghost use Rattle.conditions.specs.Windows.{In-window};
+ghost use Rattle.conditions.specs.Windows.{InWindow};
 
 use crate::conditions::{CONDITION_COUNT, Conditions};
 use crate::window::Window;
@@ -72,7 +72,7 @@ impl Conditions for WeekClock {
 
     fn holds(&self, condition: u32) -> bool
         ensures exact { result ≡ timed self.now condition }
-        ensures words { In-window (minute_of self.now) (windows_of self.now condition).from (windows_of self.now condition).to result }
+        ensures words { InWindow (minute_of self.now) (windows_of self.now condition).from (windows_of self.now condition).to result }
     {
         condition < CONDITION_COUNT && self.windows[condition as usize].contains(self.minute)
     }

@@ -22,13 +22,13 @@ box_more b [] l = refl
 box_more b (m ∷ ls) l = box_more (line_box b m) ls l
 
 -- the lines read so far, and those of what is left, are the lines of the text; their answers are the bytes, and c is the box after them
-pub record So-far (text : List ℕ) (at : ℕ) (b c : Box) (bytes : List ℕ) : Type 0 where
+pub record SoFar (text : List ℕ) (at : ℕ) (b c : Box) (bytes : List ℕ) : Type 0 where
   pub lines : List Line
   pub rest : (ms : List Line) → Lines (length text) (drop at text) ms → Reading text (lines ++ ms)
   pub answers : bytes ≡ text_bytes b lines
   pub box : c ≡ text_box b lines
 
-pub none_yet : (text : List ℕ) (at : ℕ) (b : Box) (bytes : List ℕ) → at ≡ 0 → bytes ≡ [] → So-far text at b b bytes
+pub none_yet : (text : List ℕ) (at : ℕ) (b : Box) (bytes : List ℕ) → at ≡ 0 → bytes ≡ [] → SoFar text at b b bytes
 none_yet text at b bytes z e = record { lines = []; rest = λ ms h. subst (λ n. Lines (length text) (drop n text) ms) z h; answers = e; box = refl }
 
 front : (xs ys zs : List ℕ) (n : ℕ) → zs ≡ xs ++ ys → n ≡ length xs → take n zs ≡ xs
@@ -37,7 +37,7 @@ front xs ys zs n e m =
     ap (take n) e ∙ take-append-le n xs ys h ∙ take_all n xs (omega arith)
 
 pub line_more : (text : List ℕ) (at next : ℕ) (b c d : Box) (bytes more before after : List ℕ) (r : Reply) (n : ℕ)
-    → So-far text at b c bytes → (other : List ℕ) → other ≡ text → Replied other at next c d before after r → n ≡ r.written → more ≡ bytes ++ take n after → So-far text next b d more
+    → SoFar text at b c bytes → (other : List ℕ) → other ≡ text → Replied other at next c d before after r → n ≡ r.written → more ≡ bytes ++ take n after → SoFar text next b d more
 line_more text at next b c d bytes more before after r n s other o y k e =
     let x : Replied text at next c d before after r = subst (λ t. Replied t at next c d before after r) o y in
     let l = x.line in
@@ -50,7 +50,7 @@ line_more text at next b c d bytes more before after r n s other o y k e =
       box = x.box ∙ ap (λ y. line_box y l) s.box ∙ sym (box_more b ls l);
     }
 
-pub whole : (text : List ℕ) (at : ℕ) (b c : Box) (bytes : List ℕ) → length text ≤ at → (s : So-far text at b c bytes) → Reading text s.lines
+pub whole : (text : List ℕ) (at : ℕ) (b c : Box) (bytes : List ℕ) → length text ≤ at → (s : SoFar text at b c bytes) → Reading text s.lines
 whole text at b c bytes end s = subst (Lines (length text) text) (append-nil s.lines) (s.rest [] (drop_all at text end))
 
 -- a step that gave a reply, and one that gave none

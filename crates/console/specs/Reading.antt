@@ -39,7 +39,7 @@ Onward size n at next (Ok (Some r)) = (at < next) × (next ≤ n) × (r.written 
 
 -- A text that was read: its lines by the grammar, their answers one after another, the box after them; and of the calls since the
 -- last accepted opening, whatever calls the box had seen before, the whole law of runs.
-pub record Was-read (text : List ℕ) (b c : Box) (bytes : List ℕ) : Type 0 where
+pub record WasRead (text : List ℕ) (b c : Box) (bytes : List ℕ) : Type 0 where
   pub lines : List Line
   pub reading : Reading text lines
   pub answers : bytes ≡ text_bytes b lines

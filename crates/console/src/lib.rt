@@ -1,5 +1,7 @@
 // One box from text to answers: records change its tables or ask something of its house.
 
+#![tactic(auto)]
+
 mod acting;
 mod asking;
 mod console;

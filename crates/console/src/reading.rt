@@ -2,7 +2,7 @@
 ghost use Rattle.std.specs.Prelude.{◌≡◌, ◌<◌, ◌≤◌, ◌++◌, length, drop, MatchResult};
 ghost use Rattle.requests.specs.Sites.{SoundSite};
 ghost use Rattle.console.specs.Boxes.{box_of};
-ghost use Rattle.console.specs.Reading.{Stepped, Onward, Was-read, WasUnread};
+ghost use Rattle.console.specs.Reading.{Stepped, Onward, WasRead, WasUnread};
 ghost use Rattle.console.specs.Given.{given-reply, given-box};
 ghost use Rattle.console.specs.Texts.{reply_bytes};
 
@@ -78,7 +78,7 @@ impl<'a, S: PairSet, T: PairSet> Console<'a, S, T> {
     // A whole text: every line is answered, one after another. What it writes fits in memory that is reserved beforehand;
     // where there is none, and where the text is too long, nothing is done.
     pub fn read_text(&mut self, heap: Global, text: &[u8]) -> Result<Vec<u8>, Unread>
-        ensures read { MatchResult result (λ v. SoundSite (box_of S.PairSet.pairs T.PairSet.pairs self.old).site → Was-read text.now (box_of S.PairSet.pairs T.PairSet.pairs self.old) (box_of S.PairSet.pairs T.PairSet.pairs self.new) v.items) (λ u. WasUnread text.now u × ((box_of S.PairSet.pairs T.PairSet.pairs self.new) ≡ (box_of S.PairSet.pairs T.PairSet.pairs self.old))) }
+        ensures read { MatchResult result (λ v. SoundSite (box_of S.PairSet.pairs T.PairSet.pairs self.old).site → WasRead text.now (box_of S.PairSet.pairs T.PairSet.pairs self.old) (box_of S.PairSet.pairs T.PairSet.pairs self.new) v.items) (λ u. WasUnread text.now u × ((box_of S.PairSet.pairs T.PairSet.pairs self.new) ≡ (box_of S.PairSet.pairs T.PairSet.pairs self.old))) }
         ensures sound { SoundSite (box_of S.PairSet.pairs T.PairSet.pairs self.old).site → SoundSite (box_of S.PairSet.pairs T.PairSet.pairs self.new).site }
     {
         let Ok(mut records) = Records::new(text) else {

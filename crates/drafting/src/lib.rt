@@ -1,5 +1,7 @@
 // What an accepted table record does to the sheet.
 
+#![tactic(auto)]
+
 mod applying;
 mod declaring;
 mod gathering;

@@ -1,5 +1,7 @@
 // Reads standard input as one text and prints, record by record, its place and its fields, or the place of its fault.
 
+#![tactic(auto)]
+
 use records::{Field, KEPT_FIELDS, Record, Records, TEXT_LIMIT};
 use refusals::Refusal;
 use std::io;

@@ -1,5 +1,7 @@
 // The fields of a record against the columns of its kind: what they say, and whether they are well written.
 
+#![tactic(auto)]
+
 mod reading;
 mod spelling;
 

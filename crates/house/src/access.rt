@@ -18,7 +18,7 @@ use tables::{LIST_LIMIT, Table, Thing};
 
 // The conditions that hold now, as a set.
 pub fn conditions_now<C: Conditions>(source: &C) -> Row
-    ensures { numbers result ≡ holding source.now }
+    ensures { numbers result ≡ C.holding source.now }
 {
     let mut conditions = Row::new();
     for condition in 0..CONDITION_COUNT {

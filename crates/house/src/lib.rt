@@ -1,5 +1,7 @@
 // One running house over any two sets of pairs: its leases, its changes, its sessions and the check of an access.
 
+#![tactic(auto)]
+
 mod access;
 mod changes;
 mod house;

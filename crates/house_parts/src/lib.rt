@@ -1,6 +1,8 @@
 // What a running house keeps besides its pairs: to whom each lease is out, and the sessions that live; and which roles
 // may not be active together.
 
+#![tactic(auto)]
+
 mod leases;
 mod separation;
 mod sessions;

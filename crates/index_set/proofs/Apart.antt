@@ -1,7 +1,7 @@
 -- A list in which no two items are the same stays so.
 use Rattle.std.proofs.Common.{◌≡◌, ℕ, zero, suc, Bool, true, false, not, ◌&&◌, List, [], ◌∷◌, ◌++◌, set, sym, refl, ap, ◌∙◌, ⊎_elim}
 use Rattle.std.specs.List.{slice_get, remove, list_all, AllByRecursion as All}
-use Rattle.std.specs.Map.Invariant.{is-distinct}
+use Rattle.index_set.specs.Distinct.{is_distinct}
 use Rattle.std.proofs.lemmas.Bool.{and_parts, and_from, cases_Bool, both_ways, not-true, not_from_false}
 use Rattle.index_set.specs.Found.{is_alike_at}
 
@@ -23,18 +23,18 @@ module _ {X : Type 0} (p : X → Bool) where
 
 -- An item put behind the others, or taken out.
 module _ {X : Type 0} (e : X → X → Bool) where
-  pub apart_push : (xs : List X) (x : X) → All (λ y. e y x ≡ false) xs → is-distinct e xs ≡ true → is-distinct e (xs ++ x ∷ []) ≡ true
+  pub apart_push : (xs : List X) (x : X) → All (λ y. e y x ≡ false) xs → is_distinct e xs ≡ true → is_distinct e (xs ++ x ∷ []) ≡ true
   apart_push [] x h k = refl
   apart_push (y ∷ ys) x h k =
-      let a = and_parts (list_all (λ z. not (e y z)) ys) (is-distinct e ys) k in
+      let a = and_parts (list_all (λ z. not (e y z)) ys) (is_distinct e ys) k in
       and_from (list_all (λ z. not (e y z)) (ys ++ x ∷ [])) _ (pass_push (λ z. not (e y z)) ys x a.0 (not_from_false (e y x) h.0)) (apart_push ys x h.1 a.1)
 
-  pub apart_removed : (xs : List X) (i : ℕ) → is-distinct e xs ≡ true → is-distinct e (remove xs i) ≡ true
+  pub apart_removed : (xs : List X) (i : ℕ) → is_distinct e xs ≡ true → is_distinct e (remove xs i) ≡ true
   apart_removed [] zero k = refl
   apart_removed [] (suc i) k = refl
-  apart_removed (y ∷ ys) zero k = (and_parts (list_all (λ z. not (e y z)) ys) (is-distinct e ys) k).1
+  apart_removed (y ∷ ys) zero k = (and_parts (list_all (λ z. not (e y z)) ys) (is_distinct e ys) k).1
   apart_removed (y ∷ ys) (suc i) k =
-      let a = and_parts (list_all (λ z. not (e y z)) ys) (is-distinct e ys) k in
+      let a = and_parts (list_all (λ z. not (e y z)) ys) (is_distinct e ys) k in
       and_from (list_all (λ z. not (e y z)) (remove ys i)) _ (pass_removed (λ z. not (e y z)) ys i a.0) (apart_removed ys i a.1)
 
 -- An item that gives way to one that is the same.
@@ -53,11 +53,11 @@ module _ {X : Type 0} (e : X → X → Bool) (sy : (x y : X) → e x y ≡ e y x
   apart_one z x (y ∷ ys) (suc i) k h =
       let a = and_parts (not (e z y)) (list_all (λ w. not (e z w)) ys) h in and_from (not (e z y)) _ a.0 (apart_one z x ys i k a.1)
 
-  pub apart_set : (x : X) (xs : List X) (i : ℕ) → is_alike_at e xs i x ≡ true → is-distinct e xs ≡ true → is-distinct e (set xs i x) ≡ true
+  pub apart_set : (x : X) (xs : List X) (i : ℕ) → is_alike_at e xs i x ≡ true → is_distinct e xs ≡ true → is_distinct e (set xs i x) ≡ true
   apart_set x [] i k h = refl
   apart_set x (y ∷ ys) zero k h =
-      let a = and_parts (list_all (λ z. not (e y z)) ys) (is-distinct e ys) h in
+      let a = and_parts (list_all (λ z. not (e y z)) ys) (is_distinct e ys) h in
       and_from (list_all (λ z. not (e x z)) ys) _ (pass_weaker (λ z. not (e y z)) (λ z. not (e x z)) (λ z n. not_from_false (e x z) (like_left z y x k (not-true (e y z) n))) ys a.0) a.1
   apart_set x (y ∷ ys) (suc i) k h =
-      let a = and_parts (list_all (λ z. not (e y z)) ys) (is-distinct e ys) h in
+      let a = and_parts (list_all (λ z. not (e y z)) ys) (is_distinct e ys) h in
       and_from (list_all (λ z. not (e y z)) (set ys i x)) _ (apart_one y x ys i k a.0) (apart_set x ys i k a.1)

@@ -1,6 +1,6 @@
 -- What a set holds, and what its methods keep.
 use Rattle.std.specs.Prelude.{◌≡◌, ℕ, ◌<◌, ◌≤◌, Bool, true, List, [], length, take, Ok, Err, Result}
-use Rattle.std.specs.Map.Invariant.{is-distinct}
+use Rattle.index_set.specs.Distinct.{is_distinct}
 use Rattle.refusals.specs.declared.refusal.Refusal.{Refusal}
 use Rattle.refusals.specs.declared.refusal.Refusal.TheVariants.{MemoryTooShort}
 use Rattle.index_set.specs.declared.index_set.IndexSet.{IndexSet}
@@ -11,7 +11,7 @@ items_of s = take s.len s.places.now
 
 -- What every method keeps: the items are within the limit, the limit within the memory, and no two items are the same.
 abbrev pub Orderly : {X : Type 0} → (X → X → Bool) → IndexSet X → Type 0
-Orderly alike s = (s.len ≤ s.limit) × (s.limit ≤ length s.places.now) × (is-distinct alike (items_of s) ≡ true)
+Orderly alike s = (s.len ≤ s.limit) × (s.limit ≤ length s.places.now) × (is_distinct alike (items_of s) ≡ true)
 
 -- What comes of making a set for at most limit items over a memory: the empty set, or refusal 2.
 abbrev pub Made : {X : Type 0} → (X → X → Bool) → ℕ → List X → Result (IndexSet X) Refusal → Type 0

@@ -1,3 +1,4 @@
+pub mod Distinct
 pub mod Found
 pub mod Inserting
 pub mod Items

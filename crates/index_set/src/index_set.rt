@@ -30,7 +30,7 @@ fn close_gap<X: Copy>(places: &mut [X], gap: usize, len: usize)
 impl<'a, X: Same + Copy> IndexSet<'a, X> {
     // The empty set for at most `limit` items; refused where the memory has fewer places.
     pub fn new(memory: &'a mut [X], limit: usize) -> Result<IndexSet<'a, X>, Refusal>
-        ensures { Made alike limit memory.old result }
+        ensures { Made X.alike limit memory.old result }
     {
         if memory.len() < limit {
             return Err(Refusal::MemoryTooShort);
@@ -44,14 +44,14 @@ impl<'a, X: Same + Copy> IndexSet<'a, X> {
 
     // The items in order of arrival.
     pub fn items(&self) -> &[X]
-        requires { Orderly alike self.now }
+        requires { Orderly X.alike self.now }
         ensures { result.now ≡ items_of self.now }
     {
         &self.places[0..self.len]
     }
 
     pub fn len(&self) -> usize
-        requires { Orderly alike self.now }
+        requires { Orderly X.alike self.now }
         ensures { result ≡ length (items_of self.now) }
     {
         self.items().len()
@@ -59,7 +59,7 @@ impl<'a, X: Same + Copy> IndexSet<'a, X> {
 
     // The item at `index`.
     pub fn get(&self, index: usize) -> Option<X>
-        requires { Orderly alike self.now }
+        requires { Orderly X.alike self.now }
         ensures { result ≡ slice_get (items_of self.now) index }
     {
         let items = self.items();
@@ -72,9 +72,9 @@ impl<'a, X: Same + Copy> IndexSet<'a, X> {
 
     // The index of the item that is the same as `x`.
     pub fn index_of(&self, x: &X) -> Option<usize>
-        requires { Orderly alike self.now }
-        ensures place { result ≡ place_of alike (items_of self.now) x.now }
-        ensures words { MatchOption result (Absent alike (items_of self.now) x.now) (Found alike (items_of self.now) x.now) }
+        requires { Orderly X.alike self.now }
+        ensures place { result ≡ place_of X.alike (items_of self.now) x.now }
+        ensures words { MatchOption result (Absent X.alike (items_of self.now) x.now) (Found X.alike (items_of self.now) x.now) }
     {
         for (index, item) in self.items().iter().enumerate() {
             if item.same(x) {
@@ -86,10 +86,10 @@ impl<'a, X: Same + Copy> IndexSet<'a, X> {
 
     // Puts `x` in behind the others, unless the same item is there or there is no room.
     pub fn insert(&mut self, x: X) -> Insertion
-        requires { Orderly alike self.old }
-        ensures orderly { Orderly alike self.new }
-        ensures answer { result ≡ insertion_of alike self.old.limit (items_of self.old) x }
-        ensures words { Inserts alike self.old.limit (items_of self.old) x result }
+        requires { Orderly X.alike self.old }
+        ensures orderly { Orderly X.alike self.new }
+        ensures answer { result ≡ insertion_of X.alike self.old.limit (items_of self.old) x }
+        ensures words { Inserts X.alike self.old.limit (items_of self.old) x result }
         ensures items { items_of self.new ≡ grown result (items_of self.old) x }
         ensures limit { self.new.limit ≡ self.old.limit }
     {
@@ -107,9 +107,9 @@ impl<'a, X: Same + Copy> IndexSet<'a, X> {
 
     // Puts `x` in the place of the item at `index`, if the two are the same.
     pub fn replace(&mut self, index: usize, x: X) -> bool
-        requires { Orderly alike self.old }
-        ensures orderly { Orderly alike self.new }
-        ensures answer { result ≡ is_alike_at alike (items_of self.old) index x }
+        requires { Orderly X.alike self.old }
+        ensures orderly { Orderly X.alike self.new }
+        ensures answer { result ≡ is_alike_at X.alike (items_of self.old) index x }
         ensures items { items_of self.new ≡ (if result then slice_set (items_of self.old) index x else items_of self.old) }
         ensures limit { self.new.limit ≡ self.old.limit }
     {
@@ -125,8 +125,8 @@ impl<'a, X: Same + Copy> IndexSet<'a, X> {
 
     // Takes the item at `index` out; those behind it move up by one, and the last place serves again.
     pub fn shift_remove(&mut self, index: usize) -> Option<X>
-        requires { Orderly alike self.old }
-        ensures orderly { Orderly alike self.new }
+        requires { Orderly X.alike self.old }
+        ensures orderly { Orderly X.alike self.new }
         ensures answer { result ≡ slice_get (items_of self.old) index }
         ensures items { items_of self.new ≡ remove (items_of self.old) index }
         ensures limit { self.new.limit ≡ self.old.limit }
@@ -142,8 +142,8 @@ impl<'a, X: Same + Copy> IndexSet<'a, X> {
     }
 
     pub fn clear(&mut self)
-        requires { Orderly alike self.old }
-        ensures orderly { Orderly alike self.new }
+        requires { Orderly X.alike self.old }
+        ensures orderly { Orderly X.alike self.new }
         ensures items { items_of self.new ≡ [] }
         ensures limit { self.new.limit ≡ self.old.limit }
     {

@@ -1,5 +1,7 @@
 // A set that keeps its items in the order in which they came, in memory that is lent to it.
 
+#![tactic(auto)]
+
 mod index_set;
 mod insertion;
 mod same;

@@ -1,5 +1,7 @@
 // The kinds of records that the box reads: the word of each kind, and its columns.
 
+#![tactic(auto)]
+
 mod column;
 mod columns;
 mod kind;

@@ -1,5 +1,7 @@
 // When a draft may open: each rule of a lawful draft, the check of all of them, and the unit whose task holds a pair.
 
+#![tactic(auto)]
+
 mod breach;
 mod check;
 mod lists;

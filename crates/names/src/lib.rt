@@ -1,5 +1,7 @@
 // The names that are declared, table by table.
 
+#![tactic(auto)]
+
 mod calls;
 mod names;
 mod register;

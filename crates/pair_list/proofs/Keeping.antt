@@ -1,7 +1,7 @@
 -- What a pair list keeps: its pairs in bounds, and room for each that is absent.
 use Rattle.std.proofs.Common.{◌≡◌, ℕ, ◌+◌, ◌<◌, ◌≤◌, Bool, true, false, not, ◌&&◌, List, [], ◌∷◌, ◌++◌, length, sym, refl, ap, ◌∙◌, arith}
 use Rattle.std.specs.List.{remove, list_all}
-use Rattle.std.specs.Map.Invariant.{is-distinct}
+use Rattle.index_set.specs.Distinct.{is_distinct}
 use Rattle.std.proofs.ByRecursion.{all_from_every}
 use Rattle.std.proofs.lemmas.List.{length_push}
 use Rattle.index_set.specs.Found.{Absent}
@@ -33,7 +33,7 @@ unfolding all_in_bounds
 bounds_removed ps i h = pass_removed (λ q. in_bounds q.left q.right) ps i h
 
 -- there is room for a pair in bounds that is absent
-pub never_full : (ps : List Pair) (p : Pair) → in_bounds p.left p.right ≡ true → all_in_bounds ps ≡ true → is-distinct alike_pair ps ≡ true → Absent alike_pair ps p → length ps < 2048
+pub never_full : (ps : List Pair) (p : Pair) → in_bounds p.left p.right ≡ true → all_in_bounds ps ≡ true → is_distinct alike_pair ps ≡ true → Absent alike_pair ps p → length ps < 2048
 never_full ps p b h k a =
     let d = apart_push alike_pair ps p (all_from_every _ ps a) k in
     omega (arith, few_pairs (ps ++ p ∷ []) (bounds_push ps p b h) d, length_push ps p)

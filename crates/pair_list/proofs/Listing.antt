@@ -2,7 +2,7 @@
 use Rattle.std.proofs.Common.{◌≡◌, ℕ, zero, suc, ◌+◌, ◌<◌, ◌≤◌, Bool, true, false, not, ◌&&◌, ◌||◌, eqb, ltb, List, [], ◌∷◌, ◌++◌, length, get_or, is_some, Some, None, Option, sym, refl, ap, ◌∙◌, arith, MatchOption}
 use mathlib.Core.Path.{fun_ext}
 use Rattle.std.specs.List.{remove, HoldsAt, list_all, AllByRecursion as All}
-use Rattle.std.specs.Map.Invariant.{is-distinct}
+use Rattle.index_set.specs.Distinct.{is_distinct}
 use Rattle.std.proofs.ByRecursion.{all_from_every}
 use Rattle.std.proofs.lemmas.Bool.{and_parts, not-true}
 use Rattle.std.proofs.lemmas.Bool.Decides.{nat_tests}
@@ -48,21 +48,21 @@ pass_at f [] i d h k = absurd (omega arith)
 pass_at f (q ∷ ps) zero d h k = (and_parts (f q) (list_all f ps) k).0
 pass_at f (q ∷ ps) (suc i) d h k = pass_at f ps i d (omega arith) (and_parts (f q) (list_all f ps) k).1
 
-removed_at : (ps : List Pair) (p : Pair) (i : ℕ) → all_in_bounds ps ≡ true → is-distinct alike_pair ps ≡ true → i < length ps → HoldsAt (λ q. alike_pair q p ≡ true) ps i → (a b : ℕ) → listed (remove ps i) a b ≡ without_pair (listed ps) p.left p.right a b
+removed_at : (ps : List Pair) (p : Pair) (i : ℕ) → all_in_bounds ps ≡ true → is_distinct alike_pair ps ≡ true → i < length ps → HoldsAt (λ q. alike_pair q p ≡ true) ps i → (a b : ℕ) → listed (remove ps i) a b ≡ without_pair (listed ps) p.left p.right a b
 unfolding listed all_in_bounds without_pair
 removed_at [] p i b k h t x y = absurd (omega arith)
 removed_at (q ∷ ps) p zero b k h t x y =
-    let a = and_parts (list_all (λ z. not (alike_pair q z)) ps) (is-distinct alike_pair ps) k in
+    let a = and_parts (list_all (λ z. not (alike_pair q z)) ps) (is_distinct alike_pair ps) k in
     let n : listed ps q.left q.right ≡ false = all_absent ps q (rest_absent q ps a.0) in
     let e = t q in
     grind (arith, nat_tests)
 removed_at (q ∷ ps) p (suc i) b k h t x y =
-    let a = and_parts (list_all (λ z. not (alike_pair q z)) ps) (is-distinct alike_pair ps) k in
+    let a = and_parts (list_all (λ z. not (alike_pair q z)) ps) (is_distinct alike_pair ps) k in
     let o = and_parts (in_bounds q.left q.right) _ b in
     let f = removed_at ps p i o.1 a.1 (omega arith) t x y in
     let e = t q in
     let n = not-true (alike_pair q (get_or ps i q)) (pass_at (λ z. not (alike_pair q z)) ps i q (omega arith) a.0) in
     grind (arith, nat_tests)
 
-pub listed_removed : (ps : List Pair) (p : Pair) (i : ℕ) → all_in_bounds ps ≡ true → is-distinct alike_pair ps ≡ true → Found alike_pair ps p i → listed (remove ps i) ≡ without_pair (listed ps) p.left p.right
+pub listed_removed : (ps : List Pair) (p : Pair) (i : ℕ) → all_in_bounds ps ≡ true → is_distinct alike_pair ps ≡ true → Found alike_pair ps p i → listed (remove ps i) ≡ without_pair (listed ps) p.left p.right
 listed_removed ps p i b k f = fun_ext λ x. fun_ext λ y. removed_at ps p i b k f.0 f.1 x y

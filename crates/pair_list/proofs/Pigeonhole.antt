@@ -1,7 +1,7 @@
 -- Different pairs in bounds are at most 2,048.
 use Rattle.std.proofs.Common.{◌≡◌, ℕ, zero, suc, ◌+◌, ◌*◌, ◌<◌, ◌≤◌, Bool, true, false, cond, not, ◌&&◌, eqb, ltb, List, [], ◌∷◌, length, filter, sym, refl, ap, ◌∙◌, arith}
 use Rattle.std.specs.List.{list_all}
-use Rattle.std.specs.Map.Invariant.{is-distinct}
+use Rattle.index_set.specs.Distinct.{is_distinct}
 use Rattle.std.proofs.lemmas.Bool.{and_parts, and_from, eqb-true, ltb-true, cond_both, not-false}
 use Rattle.std.proofs.lemmas.Bool.Decides.{nat_tests}
 use Rattle.stores.specs.Alike.{alike_pair}
@@ -24,12 +24,12 @@ module _ {X : Type 0} (code : X → ℕ) where
       let f = pass_others v p ys a.1 in
       cond_both (not (eqb (code y) v)) (y ∷ others v ys) (others v ys) (λ zs. list_all p zs ≡ true) (λ t. and_from (p y) _ a.0 f) (λ t. f)
 
-  apart_others : (v : ℕ) (xs : List X) → is-distinct same_code xs ≡ true → is-distinct same_code (others v xs) ≡ true
+  apart_others : (v : ℕ) (xs : List X) → is_distinct same_code xs ≡ true → is_distinct same_code (others v xs) ≡ true
   apart_others v [] h = refl
   apart_others v (y ∷ ys) h =
-      let a = and_parts (list_all (λ z. not (same_code y z)) ys) (is-distinct same_code ys) h in
+      let a = and_parts (list_all (λ z. not (same_code y z)) ys) (is_distinct same_code ys) h in
       let f = apart_others v ys a.1 in
-      cond_both (not (eqb (code y) v)) (y ∷ others v ys) (others v ys) (λ zs. is-distinct same_code zs ≡ true)
+      cond_both (not (eqb (code y) v)) (y ∷ others v ys) (others v ys) (λ zs. is_distinct same_code zs ≡ true)
       (λ t. and_from (list_all (λ z. not (same_code y z)) (others v ys)) _ (pass_others v (λ z. not (same_code y z)) ys a.0) f) (λ t. f)
 
   below_others : (n : ℕ) (xs : List X) → list_all (λ x. ltb (code x) (suc n)) xs ≡ true → list_all (λ x. ltb (code x) n) (others n xs) ≡ true
@@ -47,10 +47,10 @@ module _ {X : Type 0} (code : X → ℕ) where
       let t : not (eqb (code z) (code y)) ≡ true = grind (arith, nat_tests) in
       rw t (ap (λ zs. z ∷ zs) (others_apart y ys a.1))
 
-  few_left : (v : ℕ) (xs : List X) → is-distinct same_code xs ≡ true → length xs ≤ suc (length (others v xs))
+  few_left : (v : ℕ) (xs : List X) → is_distinct same_code xs ≡ true → length xs ≤ suc (length (others v xs))
   few_left v [] h = omega arith
   few_left v (y ∷ ys) h =
-      let a = and_parts (list_all (λ z. not (same_code y z)) ys) (is-distinct same_code ys) h in
+      let a = and_parts (list_all (λ z. not (same_code y z)) ys) (is_distinct same_code ys) h in
       let f = few_left v ys a.1 in
       cond_both (not (eqb (code y) v)) (y ∷ others v ys) (others v ys) (λ zs. suc (length ys) ≤ suc (length zs))
       (λ t. omega arith)
@@ -59,7 +59,7 @@ module _ {X : Type 0} (code : X → ℕ) where
       let o : others v ys ≡ ys = ap (λ n. others n ys) (sym e) ∙ others_apart y ys a.0 in
       omega (arith, ap length o))
 
-  pub pigeonhole : (n : ℕ) (xs : List X) → list_all (λ x. ltb (code x) n) xs ≡ true → is-distinct same_code xs ≡ true → length xs ≤ n
+  pub pigeonhole : (n : ℕ) (xs : List X) → list_all (λ x. ltb (code x) n) xs ≡ true → is_distinct same_code xs ≡ true → length xs ≤ n
   pigeonhole zero [] h k = omega arith
   pigeonhole zero (y ∷ ys) h k = absurd (omega (arith, ltb-true (code y) 0 (and_parts (ltb (code y) 0) _ h).0))
   pigeonhole (suc n) xs h k = omega (arith, few_left n xs k, pigeonhole n (others n xs) (below_others n xs h) (apart_others n xs k))
@@ -83,7 +83,7 @@ code_apart p (q ∷ ps) b h k =
     let n = and_parts (not (alike_pair p q)) _ k in
     and_from (not (same_code code_pair p q)) _ (grind (arith, nat_tests)) (code_apart p ps b a.1 n.1)
 
-codes_apart : (ps : List Pair) → all_in_bounds ps ≡ true → is-distinct alike_pair ps ≡ true → is-distinct (same_code code_pair) ps ≡ true
+codes_apart : (ps : List Pair) → all_in_bounds ps ≡ true → is_distinct alike_pair ps ≡ true → is_distinct (same_code code_pair) ps ≡ true
 unfolding all_in_bounds
 codes_apart [] h k = refl
 codes_apart (p ∷ ps) h k =
@@ -91,5 +91,5 @@ codes_apart (p ∷ ps) h k =
     let n = and_parts (list_all (λ q. not (alike_pair p q)) ps) _ k in
     and_from (list_all (λ q. not (same_code code_pair p q)) ps) _ (code_apart p ps a.0 a.1 n.0) (codes_apart ps a.1 n.1)
 
-pub few_pairs : (ps : List Pair) → all_in_bounds ps ≡ true → is-distinct alike_pair ps ≡ true → length ps ≤ 2048
+pub few_pairs : (ps : List Pair) → all_in_bounds ps ≡ true → is_distinct alike_pair ps ≡ true → length ps ≤ 2048
 few_pairs ps h k = pigeonhole code_pair 2048 ps (codes_below ps h) (codes_apart ps h k)

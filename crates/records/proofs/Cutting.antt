@@ -60,8 +60,8 @@ in_bare Quoted e = grind arith
 in_bare AfterQuote e = grind arith
 
 pub bare_field : (at : ℕ) (s : List ℕ) (r : Run) (part : Bor (List ℕ)) (res : Result Cut ℕ) → (get_or s 0 0 ≡ 34 → ⊥) → Ran Bare s r → res ≡ cut_of (field.Bare part at) r.halt r.at → part.now ≡ take (r.at - 0) s → CutOf at s res
-bare_field at s r part res bare ran e as-cut =
-    let is : part.now ≡ take r.at s = as-cut ∙ ap (λ k. take k s) (sub-zero r.at) in
+bare_field at s r part res bare ran e as_cut =
+    let is : part.now ≡ take r.at s = as_cut ∙ ap (λ k. take k s) (sub-zero r.at) in
     let st = in_bare r.state ran.kind in
     let plain : All Plain (take r.at s) = subst (λ x. Read x (take r.at s)) st ran.read in
     let cut : s ≡ take r.at s ++ drop r.at s = sym (take-append-drop r.at s) in
@@ -96,8 +96,8 @@ pub closed_some : (rest : List ℕ) (r : Run) → Ran Quoted rest r → r.state 
 closed_some rest r ran st = omega (arith, (between rest r.at ran.within (subst (λ x. Read x (take r.at rest)) st ran.read)).size)
 
 pub quoted_field : (at : ℕ) (s rest : List ℕ) (r : Run) (part : Bor (List ℕ)) (res : Result Cut ℕ) → s ≡ 34 ∷ rest → Ran Quoted rest r → r.state ≡ AfterQuote → res ≡ cut_of (field.Quoted part at) r.halt (r.at + 1) → part.now ≡ take (r.at - 1 - 0) rest → CutOf at s res
-quoted_field at s rest r part res front ran st e as-cut =
-    let is : part.now ≡ take (r.at - 1) rest = as-cut ∙ ap (λ k. take k rest) (sub-zero (r.at - 1)) in
+quoted_field at s rest r part res front ran st e as_cut =
+    let is : part.now ≡ take (r.at - 1) rest = as_cut ∙ ap (λ k. take k rest) (sub-zero (r.at - 1)) in
     let in' = between rest r.at ran.within (subst (λ x. Read x (take r.at rest)) st ran.read) in
     let same : part.now ≡ in'.inner = is ∙ in'.is_inner in
     let after = drop r.at rest in

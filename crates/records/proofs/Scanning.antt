@@ -40,9 +40,9 @@ on_fault Quoted b t e = grind (arith, nat_tests)
 on_fault AfterQuote b t e = grind (arith, nat_tests)
 
 lone_cr : (s : State) (b : ℕ) (t : List ℕ) → b ≡ 13 → (s ≡ Quoted → ⊥) → (get_or t 0 0 ≡ 10 → ⊥) → Wrong s b t
-lone_cr Bare b t e out no-lf = inr (inr (e, no-lf))
-lone_cr Quoted b t e out no-lf = out refl
-lone_cr AfterQuote b t e out no-lf = (omega arith, omega arith, λ _. no-lf)
+lone_cr Bare b t e out no_lf = inr (inr (e, no_lf))
+lone_cr Quoted b t e out no_lf = out refl
+lone_cr AfterQuote b t e out no_lf = (omega arith, omega arith, λ _. no_lf)
 
 pub doubled_append : (p q : List ℕ) → Doubled p → Doubled q → Doubled (p ++ q)
 doubled_append p q none k = k
@@ -92,10 +92,10 @@ module _ {start : State} {bs : List ℕ} {at : ℕ} {s : State} (h : Sofar start
       ended by.Break (drop (at + 1 + 1) bs, rest ∙ (λ i. is i ∷ more i) ∙ ap (λ b. 13 ∷ b ∷ drop (at + 1 + 1) bs) lf, out)
 
   pub at_lone_cr : at < length bs → Cr ≡ step_of s (get_or bs at 0) → (get_or bs (at + 1) 0 ≡ 10 → ⊥) → Ran start bs (record { at = at; state = s; halt = by.Fault })
-  at_lone_cr lt e no-lf =
+  at_lone_cr lt e no_lf =
       let (is, out) = on_cr s (get_or bs at 0) (sym e) in
       let next : get_or (drop (at + 1) bs) 0 0 ≡ get_or bs (at + 1) 0 = get_or-drop (at + 1) bs 0 0 ∙ ap (λ i. get_or bs i 0) (add-zero (at + 1)) in
-      ended by.Fault (get_or bs at 0, drop (at + 1) bs, drop_more bs at 0 lt, lone_cr s (get_or bs at 0) (drop (at + 1) bs) is out (λ x. no-lf (sym next ∙ x)))
+      ended by.Fault (get_or bs at 0, drop (at + 1) bs, drop_more bs at 0 lt, lone_cr s (get_or bs at 0) (drop (at + 1) bs) is out (λ x. no_lf (sym next ∙ x)))
 
   pub at_fault : at < length bs → Fault ≡ step_of s (get_or bs at 0) → Ran start bs (record { at = at; state = s; halt = by.Fault })
   at_fault lt e = ended by.Fault (get_or bs at 0, drop (at + 1) bs, drop_more bs at 0 lt, on_fault s (get_or bs at 0) (drop (at + 1) bs) (sym e))

@@ -25,10 +25,10 @@ Special b = (b ≡ 44) ⊎ ((b ≡ 34) ⊎ ((b ≡ 13) ⊎ (b ≡ 10)))
 
 told : (b : ℕ) → Plain b ⊎ Special b
 told b =
-    ⊎_elim (λ e. inr (inl e)) (λ not-comma.
-    ⊎_elim (λ e. inr (inr (inl e))) (λ not-quote.
-    ⊎_elim (λ e. inr (inr (inr (inl e)))) (λ not-cr.
-    ⊎_elim (λ e. inr (inr (inr (inr e)))) (λ not-lf. inl (not-comma, not-quote, not-cr, not-lf))
+    ⊎_elim (λ e. inr (inl e)) (λ not_comma.
+    ⊎_elim (λ e. inr (inr (inl e))) (λ not_quote.
+    ⊎_elim (λ e. inr (inr (inr (inl e)))) (λ not_cr.
+    ⊎_elim (λ e. inr (inr (inr (inr e)))) (λ not_lf. inl (not_comma, not_quote, not_cr, not_lf))
     (cases_eq b 10)) (cases_eq b 13)) (cases_eq b 34)) (cases_eq b 44)
 
 not_plain : (b : ℕ) → Special b → Plain b → ⊥
@@ -118,8 +118,8 @@ stray_or_ends p (b ∷ t) s cut h no_quote = by (told b)
 amiss_or_ends : (rest : List ℕ) → (get_or rest 0 0 ≡ 34 → ⊥) → Ends rest ⊎ Amiss rest
 amiss_or_ends [] no_quote = inl (End, [], (refl, refl))
 amiss_or_ends (b ∷ t) no_quote =
-    ⊎_elim (λ e. inl (Comma, t, ap (λ x. x ∷ t) e)) (λ not-comma.
-    ⊎_elim (λ e. ⊎_elim inl (λ alone. inr (not-comma, no_quote, λ _. alone)) (cr_ends b t e)) (λ not-cr. inr (not-comma, no_quote, λ e. absurd (not-cr e)))
+    ⊎_elim (λ e. inl (Comma, t, ap (λ x. x ∷ t) e)) (λ not_comma.
+    ⊎_elim (λ e. ⊎_elim inl (λ alone. inr (not_comma, no_quote, λ _. alone)) (cr_ends b t e)) (λ not_cr. inr (not_comma, no_quote, λ e. absurd (not_cr e)))
     (cases_eq b 13)) (cases_eq b 44)
 
 abbrev FieldOrFault : ℕ → List ℕ → Type 0
@@ -156,7 +156,7 @@ module _ (n : ℕ) (s : List ℕ) (f : Piece) where
   with_more u o (inr (bad, after, b)) = inr (bad, after, record { before = f ∷ b.before; rest = b.rest; offset = b.offset; front = (u, o, b.front); faulty = b.faulty; place = b.place; onward = b.onward })
 
   alone : (stop : Stop) (after : List ℕ) → Opens n s f stop after → (stop ≡ Comma → ⊥) → RecordOrFault n s
-  alone stop after o not-comma = inl (f ∷ [], after, record { before = []; last = f; stop = stop; rest = s; fields = refl; front = refl; ends = o; stops = not-comma })
+  alone stop after o not_comma = inl (f ∷ [], after, record { before = []; last = f; stop = stop; rest = s; fields = refl; front = refl; ends = o; stops = not_comma })
 
 broken_here : (n : ℕ) (s : List ℕ) (k : ℕ) → length s ≤ n → Faulty s k → RecordOrFault n s
 broken_here n s k fits h = inr (n - length s + k, after_break (drop k s), record { before = []; rest = s; offset = k; front = refl; faulty = h; place = omega arith; onward = refl })

@@ -1,5 +1,7 @@
 // Text as records: fields with commas between them, and a line break behind each record.
 
+#![tactic(auto)]
+
 mod cursor;
 mod field;
 mod read;

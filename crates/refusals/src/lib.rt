@@ -1,5 +1,7 @@
 // What a call can answer: why it can be refused, and the number under which each reason is published.
 
+#![tactic(auto)]
+
 mod answer;
 mod refusal;
 

@@ -1,5 +1,7 @@
 // Whole runs of a house: the leases that a run takes are held for it, and what comes of it keeps the law of runs.
 
+#![tactic(auto)]
+
 mod acting;
 mod comparing;
 mod held;

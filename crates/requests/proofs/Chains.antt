@@ -17,11 +17,11 @@ use Rattle.requests.specs.Calls.{change_call, lease_for, if_accepted, under_leas
 use Rattle.requests.specs.declared.asked.Change.{Change as Way}
 
 -- a call whose way and spot are told
-module _ (d : Draft) (s : State) (way as-way : Way) (k : LeaseNumbers) (x as-spot : Spot) (p : way ≡ as-way) (q : x ≡ as-spot) where
-  pub call_answer : (a : Answer) → a ≡ judge d s (change_call as-way k as-spot) → a ≡ judge d s (change_call way k x)
+module _ (d : Draft) (s : State) (way as_way : Way) (k : LeaseNumbers) (x as_spot : Spot) (p : way ≡ as_way) (q : x ≡ as_spot) where
+  pub call_answer : (a : Answer) → a ≡ judge d s (change_call as_way k as_spot) → a ≡ judge d s (change_call way k x)
   call_answer a e = e ∙ (λ i. judge d s (change_call (sym p i) k (sym q i)))
 
-  pub call_left : (t : State) → t ≡ after d s (change_call as-way k as-spot) → t ≡ after d s (change_call way k x)
+  pub call_left : (t : State) → t ≡ after d s (change_call as_way k as_spot) → t ≡ after d s (change_call way k x)
   call_left t e = e ∙ (λ i. after d s (change_call (sym p i) k (sym q i)))
 
 -- the first of two refusals

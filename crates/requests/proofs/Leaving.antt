@@ -17,11 +17,11 @@ use Rattle.requests.specs.Sites.{Premises, holding}
 use Rattle.requests.specs.declared.asked.Asked.{Asked}
 
 -- of a request that is told
-module _ (p : Premises) (asked as-told : Asked) (e : asked ≡ as-told) where
-  pub asked_answer : (r : Answer) → r ≡ answer_to p as-told → r ≡ answer_to p asked
+module _ (p : Premises) (asked as_told : Asked) (e : asked ≡ as_told) where
+  pub asked_answer : (r : Answer) → r ≡ answer_to p as_told → r ≡ answer_to p asked
   asked_answer r h = h ∙ ap (answer_to p) (sym e)
 
-  pub asked_left : (q : Premises) → q ≡ after_asked p as-told → q ≡ after_asked p asked
+  pub asked_left : (q : Premises) → q ≡ after_asked p as_told → q ≡ after_asked p asked
   asked_left q h = h ∙ ap (after_asked p) (sym e)
 
 -- the site with another house

@@ -18,7 +18,7 @@ use Rattle.std.proofs.lemmas.Bool.{cases_eq, eq-eqb, ne_eqb, true≢false}
 use Rattle.tables.specs.declared.draft.Draft.{Draft}
 use Rattle.requests.specs.Answering.{or_refused, outcome, answer_to, after_asked}
 use Rattle.requests.specs.Calls.{change_call, lease_for, if_accepted, under_lease}
-use Rattle.requests.specs.Laws.{AllAccepted, changed_pairs, with_change, Stands-alone, ChangesStandAlone, LeasesComeBack}
+use Rattle.requests.specs.Laws.{AllAccepted, changed_pairs, with_change, StandsAlone, ChangesStandAlone, LeasesComeBack}
 use Rattle.requests.specs.Sites.{Premises}
 use Rattle.requests.specs.declared.asked.Asked.{Asked}
 use Rattle.requests.specs.declared.asked.Asked.TheVariants.{Start, End, Activate, Drop, CheckAccess, Change, Sense, Clock, Window}
@@ -157,7 +157,7 @@ module _ (p : Premises) (user unit : ℕ) (way : Way) (x : Spot) where
   by_acquire Denied e = (λ h. absurd (let z : ◌≡◌ {A = ℕ} 0 1 = cc in omega arith), λ h. h.0, λ h. absurd (let z : ◌≡◌ {A = ℕ} 0 1 = cc in omega arith), λ _. refl)
   by_acquire (Refused g) e = (λ h. absurd (let z : ◌≡◌ {A = ℕ} 0 1 = cc in omega arith), λ h. h.0, λ h. absurd (let z : ◌≡◌ {A = ℕ} 0 1 = cc in omega arith), λ _. refl)
 
-  pub stands : Stands-alone p user unit way x
+  pub stands : StandsAlone p user unit way x
   stands =
       let c = by_acquire (judge d s (Call.Acquire unit user)) refl in
       record { by_three = c.0; from_three = c.1; made = c.2; left = c.3 }

@@ -47,24 +47,24 @@ three_calls p user unit way x = log p.house p.state (Call.Acquire unit user ∷ 
 
 -- A change is accepted exactly where all its three calls are; then it changes its pair and nothing else.
 -- Any other leaves everything as it was.
-pub record Stands-alone (p : Premises) (user unit : ℕ) (way : Way) (x : Spot) : Type 0 where
+pub record StandsAlone (p : Premises) (user unit : ℕ) (way : Way) (x : Spot) : Type 0 where
   pub by_three : answer_to p (Asked.Change user unit way x) ≡ Accepted → AllAccepted (three_calls p user unit way x)
   pub from_three : AllAccepted (three_calls p user unit way x) → answer_to p (Asked.Change user unit way x) ≡ Accepted
   pub made : answer_to p (Asked.Change user unit way x) ≡ Accepted → after_asked p (Asked.Change user unit way x) ≡ with_change p way x
   pub left : (answer_to p (Asked.Change user unit way x) ≢ Accepted) → after_asked p (Asked.Change user unit way x) ≡ p
 
 abbrev pub ChangesStandAlone : Type 0
-ChangesStandAlone = (p : Premises) (user unit : ℕ) (way : Way) (x : Spot) → Stands-alone p user unit way x
+ChangesStandAlone = (p : Premises) (user unit : ℕ) (way : Way) (x : Spot) → StandsAlone p user unit way x
 
 -- Every request leaves each unit's lease as it was before: a lease that it acquires comes back.
 abbrev pub LeasesComeBack : Type 0
 LeasesComeBack = (p : Premises) (a : Asked) → (after_asked p a).state.lease ≡ p.state.lease
 
 -- In words: below the first that the clock tells, a condition is among them where the board has it reported true; from there on, where its window is now.
-pub record By-both (board : SensorBoard) (clock : WeekClock) (conditions : Row) : Type 0 where
+pub record ByBoth (board : SensorBoard) (clock : WeekClock) (conditions : Row) : Type 0 where
   pub by_board : (n : ℕ) → n < sensed_count → numbers conditions n ≡ sensed board n
   pub by_clock : (n : ℕ) → sensed_count ≤ n → numbers conditions n ≡ timed clock n
 
 -- An access check is judged under exactly the conditions that sensors and clock tell.
 abbrev pub ChecksSeeBoth : Type 0
-ChecksSeeBoth = (board : SensorBoard) (clock : WeekClock) → By-both board clock (gathered (split_at sensed_count (sensed board) (timed clock)))
+ChecksSeeBoth = (board : SensorBoard) (clock : WeekClock) → ByBoth board clock (gathered (split_at sensed_count (sensed board) (timed clock)))

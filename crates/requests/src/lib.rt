@@ -1,6 +1,8 @@
 // What a request does once its numbers are known: the calls that it makes on a running house, or what it sets on the
 // sensor board or the week clock.
 
+#![tactic(auto)]
+
 mod asked;
 mod asking;
 mod changing;

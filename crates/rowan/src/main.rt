@@ -1,4 +1,7 @@
 // Builds the example house, and shows when its draft may open and which environment roles are active.
+
+#![tactic(auto)]
+
 use anyhow::anyhow;
 
 mod house;

@@ -1,5 +1,7 @@
 // The calls of a running house, and the rules by which each is answered and what it changes.
 
+#![tactic(auto)]
+
 mod call;
 mod laws;
 

@@ -13,7 +13,7 @@ use Rattle.rules.specs.States.{opened}
 use Rattle.rules.specs.declared.call.Call.{Call}
 use Rattle.rules.specs.declared.call.Spot.TheVariants.{RolePair, Permission}
 use Rattle.rules.proofs.Sounding.{sound_effect, sound_opening}
-use Rattle.runs.specs.Laws.{EveryRun, None-afterwards}
+use Rattle.runs.specs.Laws.{EveryRun, NoneAfterwards}
 use Rattle.runs.specs.Runs.{final}
 use Rattle.runs.proofs.Sessions.{orderly, held_roles_stay}
 use Rattle.runs.proofs.Stepping.{kept}
@@ -30,7 +30,7 @@ none_barred d l cs q e p x y z = (sound d l cs).unbarred (q, e, p, x, y, z)
 pub within : (d : Draft) (l : Lawful d) (cs : List Call) → Within d (final d (opened d) cs)
 within d l cs = record { pairs_known = (sound d l cs).all_known; roles_known = (orderly d cs).declared_roles }
 
-pub none_afterwards : EveryRun None-afterwards
+pub none_afterwards : EveryRun NoneAfterwards
 none_afterwards d l calls =
     let law : Lawful d = lawful_test d l in
     let held : (w r : ℕ) → (final d (opened d) calls).held w r ≡ true → In d UserRoles w r = λ w r e. sym (ap (λ h. h w r) (held_roles_stay d calls)) ∙ e in

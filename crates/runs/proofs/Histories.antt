@@ -12,7 +12,7 @@ use Rattle.rules.specs.declared.call.Call.TheVariants.{Acquire, Assign, Revoke, 
 use Rattle.rules.proofs.Committing.{passed}
 use Rattle.rules.proofs.Deciding.{decides_for}
 use Rattle.runs.specs.Histories.{acquires, releases, starts_for, ends_session, activates, drops}
-use Rattle.runs.specs.Laws.{EveryRun, Same, By-history}
+use Rattle.runs.specs.Laws.{EveryRun, Same, ByHistory}
 use Rattle.runs.specs.Runs.{final, log}
 use Rattle.runs.proofs.Sessions.{Orderly, orderly_after, orderly_opened, held_roles_stay}
 use Rattle.runs.proofs.Sinces.{turned, tells_both}
@@ -106,7 +106,7 @@ module _ (d : Draft) where
   unfolding none_active
   nothing_active k r = refl
 
-  pub by_history : (cs : List Call) → By-history d cs (log d (opened d) cs) (final d (opened d) cs)
+  pub by_history : (cs : List Call) → ByHistory d cs (log d (opened d) cs) (final d (opened d) cs)
   by_history cs =
       record {
         leases = λ u w. same_for _ w _ (tells_both (acquires u w) (releases u) d (Orderly d) (orderly_after d) (λ s. is_for (s.lease u) w) (leased u w) (opened d) (orderly_opened d) (nobody_for u w) cs);
@@ -115,5 +115,5 @@ module _ (d : Draft) where
         held = held_roles_stay d cs;
       }
 
-pub told_by_history : EveryRun By-history
+pub told_by_history : EveryRun ByHistory
 told_by_history d l calls = by_history d calls

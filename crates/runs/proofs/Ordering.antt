@@ -27,7 +27,7 @@ use Rattle.rules.specs.declared.call.Spot.{Spot}
 use Rattle.rules.proofs.Committing.{passed, committed}
 use Rattle.rules.proofs.Deciding.{same_true}
 use Rattle.runs.specs.Histories.{is_of, calls_of, events_of, is_25, has_25}
-use Rattle.runs.specs.Laws.{EveryRun, Same-by-unit, Order}
+use Rattle.runs.specs.Laws.{EveryRun, SameByUnit, Order}
 use Rattle.runs.specs.Runs.{final, log}
 use Rattle.runs.proofs.Leases.{tasks_apart}
 use Rattle.runs.proofs.Sessions.{at_other}
@@ -220,7 +220,7 @@ module _ (d : Draft) where
         ]
 
     order_free : (cs ds : List Call) → ((u : ℕ) → calls_of u cs ≡ calls_of u ds)
-        → has_25 (log d (opened d) cs) ≡ false → has_25 (log d (opened d) ds) ≡ false → Same-by-unit d (log d (opened d) cs) (final d (opened d) cs) ds
+        → has_25 (log d (opened d) cs) ≡ false → has_25 (log d (opened d) ds) ≡ false → SameByUnit d (log d (opened d) cs) (final d (opened d) cs) ds
     order_free cs ds agree hc hd =
         record {
           events = λ u. (on u cs hc).events ∙ ap (calm_log d (opened d)) (agree u) ∙ sym (on u ds hd).events;

@@ -41,16 +41,16 @@ log_push d s [] x = refl
 log_push d s (c ∷ xs) x = ap (λ h. record { call = c; answer = judge d s c } ∷ h) (log_push d (after d s c) xs x)
 
 -- the history h and the state s are those of the calls from o on
-pub record So-far (d : Draft) (o : State) (calls : List Call) (h : List Event) (s : State) : Type 0 where
+pub record SoFar (d : Draft) (o : State) (calls : List Call) (h : List Event) (s : State) : Type 0 where
   pub logged : h ≡ log d o calls
   pub reached : s ≡ final d o calls
 
-pub so_far_none : (d : Draft) (o s : State) (h : List Event) → h ≡ [] → s ≡ o → So-far d o [] h s
+pub so_far_none : (d : Draft) (o s : State) (h : List Event) → h ≡ [] → s ≡ o → SoFar d o [] h s
 so_far_none d o s h e f = record { logged = e; reached = f }
 
 -- a turn of a loop over the calls
-pub so_far_more : (d d' : Draft) (o s s' : State) (calls : List Call) (i : ℕ) (z : Call) (h h' : List Event) (a : Answer) → i < length calls → d' ≡ d → So-far d o (take i calls) h s
-    → a ≡ judge d' s (get_or calls i z) → s' ≡ after d' s (get_or calls i z) → h' ≡ h ++ record { call = get_or calls i z; answer = a } ∷ [] → So-far d o (take (i + 1) calls) h' s'
+pub so_far_more : (d d' : Draft) (o s s' : State) (calls : List Call) (i : ℕ) (z : Call) (h h' : List Event) (a : Answer) → i < length calls → d' ≡ d → SoFar d o (take i calls) h s
+    → a ≡ judge d' s (get_or calls i z) → s' ≡ after d' s (get_or calls i z) → h' ≡ h ++ record { call = get_or calls i z; answer = a } ∷ [] → SoFar d o (take (i + 1) calls) h' s'
 so_far_more d d' o s s' calls i z h h' a lt same w said now grown =
     let x : Call = get_or calls i z in
     record {
@@ -61,7 +61,7 @@ so_far_more d d' o s s' calls i z h h' a lt same w said now grown =
     }
 
 -- the whole law of a run that is replayed from an opening
-pub replayed : (d : Draft) (o : State) (calls : List Call) (h : List Event) (s : State) → So-far d o calls h s → Replayed d o calls h s
+pub replayed : (d : Draft) (o : State) (calls : List Call) (h : List Event) (s : State) → SoFar d o calls h s → Replayed d o calls h s
 replayed d o calls h s w =
     record {
       answers = w.logged;

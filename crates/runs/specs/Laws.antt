@@ -34,7 +34,7 @@ abbrev pub Same : Type 0 → Type 0 → Type 0
 Same A B = (A → B) × (B → A)
 
 -- Rules kept: the answers and the final state are those of the rules, from the opening.
-pub record Rules-kept (d : Draft) (calls : List Call) (history : List Event) (s : State) : Type 0 where
+pub record RulesKept (d : Draft) (calls : List Call) (history : List Event) (s : State) : Type 0 where
   pub answers : history ≡ log d (opened d) calls
   pub state : s ≡ final d (opened d) calls
 
@@ -50,7 +50,7 @@ pub record Entitled (d : Draft) (k : LeaseNumbers) (x : Spot) (before : List Eve
   pub alone : (v : ℕ) → in_task d v x ≡ true → v ≡ k.unit
 
 -- unit and user are declared, the user is an administrator of the unit, and by the history its lease is not out
-pub record May-acquire (d : Draft) (u w : ℕ) (before : List Event) : Type 0 where
+pub record MayAcquire (d : Draft) (u w : ℕ) (before : List Event) : Type 0 where
   pub unit_declared : Declared d (Things Thing.Unit) u
   pub user_declared : Declared d (Things User) w
   pub administrator : In d Administrators w u
@@ -58,7 +58,7 @@ pub record May-acquire (d : Draft) (u w : ℕ) (before : List Event) : Type 0 wh
 
 -- what an accepted lease call has behind it
 abbrev pub Warranted : Draft → Call → List Event → Type 0
-Warranted d (Acquire u w) before = May-acquire d u w before
+Warranted d (Acquire u w) before = MayAcquire d u w before
 Warranted d (Assign k x) before = Entitled d k x before
 Warranted d (Revoke k x) before = Entitled d k x before
 Warranted d (Release k) before = (k.house ≡ d.number) × OutTo k.unit k.user before
@@ -73,7 +73,7 @@ abbrev pub UnderLease : Draft → List Call → List Event → State → Type 0
 UnderLease d calls history s = (before later : List Event) (e : Event) → history ≡ before ++ e ∷ later → e.answer ≡ Accepted → Warranted d e.call before
 
 -- None afterwards: at the end nothing is assigned, held or active that may never be.
-pub record None-afterwards (d : Draft) (calls : List Call) (history : List Event) (s : State) : Type 0 where
+pub record NoneAfterwards (d : Draft) (calls : List Call) (history : List Event) (s : State) : Type 0 where
   pub no_prohibited : (q e : ℕ) → In d ProhibitedPairs q e → s.pairs (RolePair q e) ≢ true
   pub no_barred : (q e p : ℕ) → s.pairs (RolePair q e) ≡ true → s.pairs (Permission p e) ≡ true → In d Bars p (role_of d q) → ⊥
   pub none_held : (w a b : ℕ) → s.held w a ≡ true → s.held w b ≡ true → In d StaticSeparation a b → ⊥
@@ -100,7 +100,7 @@ Uses d calls history s = (before later : List Event) (k device operation : ℕ) 
     → Used d (final d (opened d) (calls_in before)) k device operation conditions answer before
 
 -- another run from the same opening ends with the same pairs and leases, and each unit's events are the same
-pub record Same-by-unit (d : Draft) (history : List Event) (s : State) (others : List Call) : Type 0 where
+pub record SameByUnit (d : Draft) (history : List Event) (s : State) (others : List Call) : Type 0 where
   pub events : (u : ℕ) → events_of u history ≡ events_of u (log d (opened d) others)
   pub pairs : s.pairs ≡ (final d (opened d) others).pairs
   pub leases : s.lease ≡ (final d (opened d) others).lease
@@ -108,10 +108,10 @@ pub record Same-by-unit (d : Draft) (history : List Event) (s : State) (others :
 -- Order: the order among units counts for nothing, where neither run has an answer 25.
 abbrev pub Order : Draft → List Call → List Event → State → Type 0
 Order d calls history s = (others : List Call) → ((u : ℕ) → calls_of u calls ≡ calls_of u others)
-    → has_25 history ≡ false → has_25 (log d (opened d) others) ≡ false → Same-by-unit d history s others
+    → has_25 history ≡ false → has_25 (log d (opened d) others) ≡ false → SameByUnit d history s others
 
 -- By history: what is read off the history is the state. Who holds which role is as it was at the opening.
-pub record By-history (d : Draft) (calls : List Call) (history : List Event) (s : State) : Type 0 where
+pub record ByHistory (d : Draft) (calls : List Call) (history : List Event) (s : State) : Type 0 where
   pub leases : (u w : ℕ) → Same (s.lease u ≡ Some w) (OutTo u w history)
   pub sessions : (k w : ℕ) → Same (s.session k ≡ Some w) (LivesFor k w history)
   pub actives : (k r : ℕ) → Same (s.active k r ≡ true) (ActiveIn k r history)

@@ -1,10 +1,10 @@
 // What holds of every run from every draft that may open. Each fact is the contract of a function, which asks for its proof.
 ghost use Rattle.runs.specs.Law.{Law};
-ghost use Rattle.runs.specs.Laws.{EveryRun, Rules-kept, Counts, UnderLease, None-afterwards, Uses, Order, By-history, RefusalsDeserved};
+ghost use Rattle.runs.specs.Laws.{EveryRun, RulesKept, Counts, UnderLease, NoneAfterwards, Uses, Order, ByHistory, RefusalsDeserved};
 
 // Answers and final state are those of the rules.
 pub fn answers_follow_the_rules() -> u8
-    ensures { EveryRun Rules-kept }
+    ensures { EveryRun RulesKept }
 {
     0
 }
@@ -25,7 +25,7 @@ pub fn changes_came_under_lease() -> u8
 
 // At the end nothing is assigned, held or active that may never be.
 pub fn nothing_forbidden_remains() -> u8
-    ensures { EveryRun None-afterwards }
+    ensures { EveryRun NoneAfterwards }
 {
     0
 }
@@ -46,7 +46,7 @@ pub fn order_among_units_is_free() -> u8
 
 // Leases out, living sessions and active roles are what the history tells.
 pub fn history_tells_the_state() -> u8
-    ensures { EveryRun By-history }
+    ensures { EveryRun ByHistory }
 {
     0
 }

@@ -1,5 +1,7 @@
 // Runs of a house: lists of calls, their histories, and what holds of every run.
 
+#![tactic(auto)]
+
 mod laws;
 mod replaying;
 

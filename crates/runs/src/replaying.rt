@@ -27,8 +27,8 @@ pub fn replay<M: Machine>(
     machine: &mut M,
     calls: &[Call],
 ) -> Result<Vec<Event>, AllocError>
-    ensures same { draft machine.new ≡ draft machine.old }
-    ensures run { MatchResult result (λ v. Replayed (draft machine.old) (state machine.old) calls.now v.items (state machine.new)) (λ _. machine.new ≡ machine.old) }
+    ensures same { M.draft machine.new ≡ M.draft machine.old }
+    ensures run { MatchResult result (λ v. Replayed (M.draft machine.old) (M.state machine.old) calls.now v.items (M.state machine.new)) (λ _. machine.new ≡ machine.old) }
 {
     let mut history = Vec::with_capacity(heap, calls.len())?;
     for call in calls {

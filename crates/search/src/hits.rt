@@ -11,8 +11,8 @@ pub trait PairTest {
 
 // The first pair that passes the test, by its left number and then by its right.
 pub fn first_hit<T: PairTest>(test: &T, lefts: u32, rights: u32) -> Option<(u32, u32)>
-    ensures value { result ≡ first_pair (hit test.now) lefts rights }
-    ensures words { FirstPair (hit test.now) lefts rights result }
+    ensures value { result ≡ first_pair (T.hit test.now) lefts rights }
+    ensures words { FirstPair (T.hit test.now) lefts rights result }
 {
     for left in 0..lefts {
         for right in 0..rights {

@@ -1,5 +1,7 @@
 // Searches over numbers and pairs of numbers, and what they find.
 
+#![tactic(auto)]
+
 mod hits;
 
 pub use hits::{PairTest, first_hit};

@@ -1,5 +1,7 @@
 // Sets of pairs, left below 64 and right below 32: what they mean, rows of bits, and calls over any make.
 
+#![tactic(auto)]
+
 mod bit_rows;
 mod pair;
 mod pair_set;

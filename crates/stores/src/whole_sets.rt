@@ -7,7 +7,7 @@ use crate::pair_set::{LEFTS, PairSet, RIGHTS};
 
 // Empties the set and puts in each pair of the list that is in bounds.
 pub fn fill<S: PairSet>(store: &mut S, list: &[Pair])
-    ensures { pairs store.new ≡ listed list.now }
+    ensures { S.pairs store.new ≡ listed list.now }
 {
     store.clear();
     for pair in list {

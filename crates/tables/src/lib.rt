@@ -1,5 +1,7 @@
 // What a house is made of: lists of things, relations between them, and the draft that holds them before an opening.
 
+#![tactic(auto)]
+
 mod adding;
 mod draft;
 mod parts;

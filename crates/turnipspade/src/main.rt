@@ -1,4 +1,7 @@
 // The box: standard input is one text of records, and the answers go to standard output.
+
+#![tactic(auto)]
+
 use anyhow::anyhow;
 use console::{Console, Unread};
 use index_set::IndexSet;

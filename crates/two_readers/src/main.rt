@@ -1,5 +1,7 @@
 // Reads every short text twice, with the records and with a plain reader by the table of states, and compares.
 
+#![tactic(auto)]
+
 mod event;
 mod plain;
 

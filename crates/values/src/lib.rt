@@ -1,5 +1,7 @@
 // What a field can say: a name, a number, a flag or a word; and the lines that answer.
 
+#![tactic(auto)]
+
 mod answer;
 mod name;
 mod naming;

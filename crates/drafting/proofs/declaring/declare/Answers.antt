@@ -7,8 +7,8 @@ use Rattle.drafting.proofs.Fits.{all_there, spelt_there}
 use Rattle.drafting.proofs.Fresh.{absent, has_room, can_count}
 use Rattle.drafting.proofs.declaring.declare.Goals as goal
 
-pub new-name-requires : goal.new-name-requires
-new-name-requires c =
+pub new_name-requires : goal.new_name-requires
+new_name-requires c =
     let long = all_there _ _ (Declare c.args.thing) _ c.requires.fit in
     spelt_there _ _ (Declare c.args.thing) _ c.requires.fit 0 (omega arith)
 
@@ -16,19 +16,19 @@ pub declare-requires : goal.declare-requires
 declare-requires c =
     record {
       tidy = c.requires.tidy.0;
-      absent = absent _ _ _ c.new-name.ensures c.requires.fit.fresh;
+      absent = absent _ _ _ c.new_name.ensures c.requires.fit.fresh;
       room = has_room _ _ _ (c.requires.tidy.1 (Things c.args.thing)) c.requires.fit.room;
     }
 
-pub count-up-requires : goal.count-up-requires
-count-up-requires c = can_count c.args.thing _ c.requires.fit.room
+pub count_up-requires : goal.count_up-requires
+count_up-requires c = can_count c.args.thing _ c.requires.fit.room
 
 pub returns : goal.returns
 returns c =
-    let names = c.declare.ensures.names ∙ ap (with_name _ (Things c.args.thing)) c.new-name.ensures in
-    let draft = c.count-up.ensures.after in
+    let names = c.declare.ensures.names ∙ ap (with_name _ (Things c.args.thing)) c.new_name.ensures in
+    let draft = c.count_up.ensures.after in
     record {
-      tidy = (c.declare.ensures.tidy, counted_thing _ c.args.sheet.now.draft _ c.requires.tidy.1 _ c.args.thing _ names c.count-up.ensures.eight draft);
+      tidy = (c.declare.ensures.tidy, counted_thing _ c.args.sheet.now.draft _ c.requires.tidy.1 _ c.args.thing _ names c.count_up.ensures.eight draft);
       names = names;
       draft = draft;
     }

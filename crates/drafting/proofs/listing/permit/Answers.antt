@@ -8,5 +8,5 @@ pub returns : goal.returns
 returns c =
     let s = c.args.sheet.now in
     let tidy = c.requires.tidy in
-    let draft = permission_added _ s.draft _ tidy.1 (names_within s.names tidy.0) _ _ _ _ c.requires.fit c.number-device.ensures c.number-operation.ensures c.add-permission.ensures.answer c.add-permission.ensures.after in
+    let draft = permission_added _ s.draft _ tidy.1 (names_within s.names tidy.0) _ _ _ _ c.requires.fit c.number-device.ensures c.number-operation.ensures c.add_permission.ensures.answer c.add_permission.ensures.after in
     record { tidy = (tidy.0, counted_permission _ s.draft _ tidy.1 _ draft); names = refl; draft = draft }

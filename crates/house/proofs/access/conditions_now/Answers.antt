@@ -5,7 +5,7 @@ use Rattle.house.proofs.access.conditions_now.Goals as goal
 use Rattle.house.proofs.access.conditions_now.Goals.{then-holds, else-holds}
 
 pub loop-condition-init : goal.loop-condition-init
-loop-condition-init g c = none_gathered _ _ c.new-conditions.ensures
+loop-condition-init g c = none_gathered _ _ c.new-conditions.ensures.empty
 
 pub loop-condition-preserved : goal.loop-condition-preserved
 loop-condition-preserved g c =

@@ -8,5 +8,5 @@ pub returns : goal.returns
 returns c =
     let d = c.args.draft.now in
     let r = c.args.rule in
-    let e : c.first-hit.result ≡ breach_of d r = search rules in
+    let e : c.first_hit.result ≡ breach_of d r = search rules in
     record { exact = e; first = pair_words (breaks d r) (rows_of r) (columns_of r) _ e; words = breach_words d r _ e }

@@ -14,5 +14,5 @@ loop-count-preserved c =
 pub returns : goal.returns
 returns c =
     let inv = c.loop-count.invariant in
-    let end = c.in-default.ensures.gives.0 in
-    (c.in-ok-records.ensures.0, all_lines c.args.text.now c.loop-count.records.at c.loop-count.count (omega (arith, end, ap length inv.0)) inv.3)
+    let end = c.in_default.ensures.gives.0 in
+    (c.in_ok-records.ensures.0, all_lines c.args.text.now c.loop-count.records.at c.loop-count.count (omega (arith, end, ap length inv.0)) inv.3)

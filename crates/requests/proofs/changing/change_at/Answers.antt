@@ -6,12 +6,12 @@ use Rattle.rules.specs.declared.call.Call.{Call}
 use Rattle.requests.proofs.Chains.{first_refused, last_answer, stopped, stopped_left, chain_left, chain_answer}
 use Rattle.requests.proofs.changing.change_at.Goals as goal
 
-pub returns-in-err-lease : goal.returns-in-err-lease
-returns-in-err-lease g c =
+pub returns-in_err-lease : goal.returns-in_err-lease
+returns-in_err-lease g c =
     let d = draft_of c.args.house.now in
     let s = state_of g.S.PairSet.pairs g.T.PairSet.pairs c.args.house.now in
-    let r = c.from-residual.result in
-    let t = c.in-err-lease.ensures.answer in
+    let r = c.from_residual.result in
+    let t = c.in_err-lease.ensures.answer in
     let h : is_ok r ≡ false = search rules in
     let e : said r ≡ judge d s (Call.Acquire c.args.unit c.args.user) = search rules in
     record {
@@ -21,22 +21,22 @@ returns-in-err-lease g c =
       same = c.acquire.ensures.same;
     }
 
-pub returns-in-err-changed : goal.returns-in-err-changed
-returns-in-err-changed g c =
+pub returns-in_err-changed : goal.returns-in_err-changed
+returns-in_err-changed g c =
     let d = draft_of c.args.house.now in
     let s = state_of g.S.PairSet.pairs g.T.PairSet.pairs c.args.house.now in
     let d₁ = draft_of c.acquire.new.self in
     let s₁ = state_of g.S.PairSet.pairs g.T.PairSet.pairs c.acquire.new.self in
-    let d₂ = draft_of c.change-under-changed.new.house in
-    let s₂ = state_of g.S.PairSet.pairs g.T.PairSet.pairs c.change-under-changed.new.house in
-    let k = c.in-ok-lease.lease.numbers in
+    let d₂ = draft_of c.change_under-changed.new.house in
+    let s₂ = state_of g.S.PairSet.pairs g.T.PairSet.pairs c.change_under-changed.new.house in
+    let k = c.in_ok-lease.lease.numbers in
     let a = c.acquire.ensures in
-    let l = c.in-ok-lease.ensures in
-    let u = c.change-under-changed.ensures in
+    let l = c.in_ok-lease.ensures in
+    let u = c.change_under-changed.ensures in
     let v = c.release-released.ensures in
-    let b = c.change-under-changed.result in
-    let r = c.from-residual-in-err-changed.result in
-    let was = c.in-err-changed.was in
+    let b = c.change_under-changed.result in
+    let r = c.from_residual-in_err-changed.result in
+    let was = c.in_err-changed.was in
     let n : is_ok b ≡ false = ap is_ok was in
     let f : said r ≡ said b = search rules in
     record {
@@ -52,15 +52,15 @@ returns g c =
     let s = state_of g.S.PairSet.pairs g.T.PairSet.pairs c.args.house.now in
     let d₁ = draft_of c.acquire.new.self in
     let s₁ = state_of g.S.PairSet.pairs g.T.PairSet.pairs c.acquire.new.self in
-    let d₂ = draft_of c.change-under-changed.new.house in
-    let s₂ = state_of g.S.PairSet.pairs g.T.PairSet.pairs c.change-under-changed.new.house in
-    let k = c.in-ok-lease.lease.numbers in
+    let d₂ = draft_of c.change_under-changed.new.house in
+    let s₂ = state_of g.S.PairSet.pairs g.T.PairSet.pairs c.change_under-changed.new.house in
+    let k = c.in_ok-lease.lease.numbers in
     let a = c.acquire.ensures in
-    let l = c.in-ok-lease.ensures in
-    let u = c.change-under-changed.ensures in
+    let l = c.in_ok-lease.ensures in
+    let u = c.change_under-changed.ensures in
     let v = c.release-released.ensures in
-    let b = c.change-under-changed.result in
-    let n : is_ok b ≡ true = ap is_ok c.in-ok-changed.was in
+    let b = c.change_under-changed.result in
+    let n : is_ok b ≡ true = ap is_ok c.in_ok-changed.was in
     record {
       answer = λ h. chain_answer d s c.args.user c.args.unit c.args.change c.args.spot l.answer d₁ d₂ s₁ s₂ k a.after a.same l.lease (u.after (a.sound h)) u.same _ _ _ (u.answer (a.sound h)) v.answer (last_answer b c.release-released.result n);
       after = λ h. chain_left d s c.args.user c.args.unit c.args.change c.args.spot l.answer d₁ d₂ s₁ s₂ k a.after a.same l.lease (u.after (a.sound h)) u.same _ v.after;

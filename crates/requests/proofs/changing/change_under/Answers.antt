@@ -7,7 +7,7 @@ returns-in-Assign-RolePair g c =
     let d = draft_of c.args.house.now in
     let s = state_of g.S.PairSet.pairs g.T.PairSet.pairs c.args.house.now in
     let k = c.args.lease.now.numbers in
-    let e = c.assign-role-pair.ensures in
+    let e = c.assign_role_pair.ensures in
     let w = c.in-Assign-RolePair in
     record {
       answer = λ h. call_answer d s _ _ k _ _ w.is-0 w.is-1 _ (e.answer h);
@@ -21,7 +21,7 @@ returns-in-Assign-Permission g c =
     let d = draft_of c.args.house.now in
     let s = state_of g.S.PairSet.pairs g.T.PairSet.pairs c.args.house.now in
     let k = c.args.lease.now.numbers in
-    let e = c.assign-permission.ensures in
+    let e = c.assign_permission.ensures in
     let w = c.in-Assign-Permission in
     record {
       answer = λ h. call_answer d s _ _ k _ _ w.is-0 w.is-1 _ (e.answer h);
@@ -35,7 +35,7 @@ returns-in-Revoke-RolePair g c =
     let d = draft_of c.args.house.now in
     let s = state_of g.S.PairSet.pairs g.T.PairSet.pairs c.args.house.now in
     let k = c.args.lease.now.numbers in
-    let e = c.revoke-role-pair.ensures in
+    let e = c.revoke_role_pair.ensures in
     let w = c.in-Revoke-RolePair in
     record {
       answer = λ _. call_answer d s _ _ k _ _ w.is-0 w.is-1 _ e.answer;
@@ -49,7 +49,7 @@ returns-in-Revoke-Permission g c =
     let d = draft_of c.args.house.now in
     let s = state_of g.S.PairSet.pairs g.T.PairSet.pairs c.args.house.now in
     let k = c.args.lease.now.numbers in
-    let e = c.revoke-permission.ensures in
+    let e = c.revoke_permission.ensures in
     let w = c.in-Revoke-Permission in
     record {
       answer = λ _. call_answer d s _ _ k _ _ w.is-0 w.is-1 _ e.answer;

@@ -4,13 +4,13 @@ use Rattle.runs.proofs.replaying.replay.Goals as goal
 
 pub loop-call-init : goal.loop-call-init
 loop-call-init g c =
-    let m = c.in-ok-history.ensures in
+    let m = c.in_ok-history.ensures in
     (m.len, m.capacity, refl, so_far_none _ _ _ _ m.items refl)
 
 pub loop-call-preserved : goal.loop-call-preserved
 loop-call-preserved g c =
     let i = c.loop-call.invariant in
-    let p = c.push-reserved.ensures in
+    let p = c.push_reserved.ensures in
     let a = c.answer-answer.ensures in (
       omega (arith, i.0, p.len),
       omega (arith, i.1, p.capacity),

@@ -15,8 +15,8 @@ loop-right-preserved g c = first_more _ _ c.loop-right.invariant (search rules)
 pub loop-left-preserved : goal.loop-left-preserved
 loop-left-preserved g c = search (rules, pair_more)
 
-pub returns-then-is-hit : goal.returns-then-is-hit
-returns-then-is-hit g c =
+pub returns-then-is_hit : goal.returns-then-is_hit
+returns-then-is_hit g c =
     let f = g.T.PairTest.hit c.args.test.now in
     let e = sym (pair_found f _ _ _ _ c.loop-left-test.true c.loop-right-test.true c.loop-left.invariant c.loop-right.invariant (search rules)) in
     record { value = e; words = pair_words f c.args.lefts c.args.rights _ e }

@@ -2,13 +2,13 @@ use Rattle.std.proofs.Common.{get_or, sym, refl, ◌∙◌, inl, inr, arith, rul
 use Rattle.values.specs.Numbers.{digits, value_after}
 use Rattle.values.proofs.Numerals.{bound_more, is_digit, value_step, digits_step, none_at, some_at}
 use Rattle.values.proofs.numeral.number.Goals as goal
-use Rattle.values.proofs.numeral.number.Goals.{in-default, in-default·2}
+use Rattle.values.proofs.numeral.number.Goals.{in_default, in_default-2}
 
-pub returns-in-default-b : goal.returns-in-default-b
-returns-in-default-b c = none_at c.args.part.now c.loop-b.b-index c.loop-b-test.true c.loop-b.invariant.2 (inl (omega arith))
+pub returns-in_default-b : goal.returns-in_default-b
+returns-in_default-b c = none_at c.args.part.now c.loop-b.b-index c.loop-b-test.true c.loop-b.invariant.2 (inl (omega arith))
 
-pub returns-in-default-b·2 : goal.returns-in-default-b·2
-returns-in-default-b·2 c = none_at c.args.part.now c.loop-b.b-index c.loop-b-test.true c.loop-b.invariant.2 (inr (omega arith))
+pub returns-in_default-b-2 : goal.returns-in_default-b-2
+returns-in_default-b-2 c = none_at c.args.part.now c.loop-b.b-index c.loop-b-test.true c.loop-b.invariant.2 (inr (omega arith))
 
 pub loop-b-preserved : goal.loop-b-preserved
 loop-b-preserved c =
@@ -23,6 +23,6 @@ loop-b-preserved c =
 pub returns : goal.returns
 returns c =
     some_at c.args.part.now c.loop-b.b-index c.loop-b.n c.loop-b-test.false
-    (search rules) c.if-part-gt-MOST-DIGITS.false
-    (elim c.if-part-lt2.branch [ in-default w ↦ inl (search rules) | in-default·2 w ↦ inr (search rules) ])
+    (search rules) c.if-part-gt-MOST_DIGITS.false
+    (elim c.if-part-lt2.branch [ in_default w ↦ inl (search rules) | in_default-2 w ↦ inr (search rules) ])
     c.loop-b.invariant.1 c.loop-b.invariant.2

@@ -5,9 +5,9 @@ use Rattle.conditions.specs.Limits.{condition_count, is_condition, is_window, ac
 use Rattle.conditions.proofs.Timing.{window_refused, window_set}
 use Rattle.conditions.proofs.week_clock.WeekClock.set_window.Goals as goal
 
-pub returns-then-condition-ge-CONDITION-COUNT : goal.returns-then-condition-ge-CONDITION-COUNT
-returns-then-condition-ge-CONDITION-COUNT c =
-    let either = c.then-condition-ge-CONDITION-COUNT.either in
+pub returns-then-condition-ge-CONDITION_COUNT : goal.returns-then-condition-ge-CONDITION_COUNT
+returns-then-condition-ge-CONDITION_COUNT c =
+    let either = c.then-condition-ge-CONDITION_COUNT.either in
     let f : (is_condition c.args.condition && is_window c.args.from c.args.to) ≡ false = grind (arith, nat_tests) in
     let e = window_refused _ _ _ _ f in
     record { answer = sym (ap accepted_if f); minute = refl; windows = e; after = ap (timed_at _) e }

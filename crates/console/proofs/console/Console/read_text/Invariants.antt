@@ -1,7 +1,7 @@
 use Rattle.std.proofs.Common.{◌≡◌, ◌-◌, ◌*◌, ◌≤◌, length, vec_items, vec_len, vec_capacity}
 use Rattle.requests.specs.Sites.{SoundSite}
 use Rattle.console.specs.Boxes.{box_of}
-use Rattle.console.proofs.Progress.{So-far}
+use Rattle.console.proofs.Progress.{SoFar}
 use Rattle.console.proofs.console.Console.read_text.Given as goal
 
 abbrev pub invariant-lines : goal.invariant-lines
@@ -13,7 +13,7 @@ invariant-lines g l =
     × (vec_len l.answers ≤ 12 * l.records.at)
     × (SoundSite (box_of g.S.PairSet.pairs g.T.PairSet.pairs l.initial.self).site → SoundSite (box_of g.S.PairSet.pairs g.T.PairSet.pairs l.self).site)
     × (SoundSite (box_of g.S.PairSet.pairs g.T.PairSet.pairs l.initial.self).site
-    → So-far l.text l.records.at (box_of g.S.PairSet.pairs g.T.PairSet.pairs l.initial.self) (box_of g.S.PairSet.pairs g.T.PairSet.pairs l.self) (vec_items l.answers))
+    → SoFar l.text l.records.at (box_of g.S.PairSet.pairs g.T.PairSet.pairs l.initial.self) (box_of g.S.PairSet.pairs g.T.PairSet.pairs l.self) (vec_items l.answers))
 
 abbrev pub decreases-lines : goal.decreases-lines
 decreases-lines g l = length l.text - l.records.at

@@ -19,6 +19,6 @@ returns g c = λ conditions h.
     let p = c.in-Some.ensures in
     unrefused _ _ _ _ _ n l (ap is_some (sym p))
     (ap (λ b. cond b Granted Denied)
-    (c.has-path.ensures
+    (c.has_path.ensures
     ∙ granted_is d s c.args.session c.args.device c.args.operation c.in-Some.permission conditions holding _ p h
-    (c.active-roles-roles.ensures.exact ∙ ap (active holding) c.listed-entries.ensures)))
+    (c.active_roles-roles.ensures.exact ∙ ap (active holding) c.listed_entries.ensures)))

@@ -3,8 +3,8 @@ use Rattle.tables.specs.declared.relation.Relation.TheVariants.{UserRoles, Permi
 use Rattle.house.proofs.Empties.{empty_lawful, opens, sound_opened}
 use Rattle.house.proofs.house.House.new.Goals as goal
 
-pub invariant-of-result : goal.invariant-of-result
-invariant-of-result g c = (empty_lawful c.new.result c.new.ensures, tt)
+pub invariant_of-result : goal.invariant_of-result
+invariant_of-result g c = record { lawful = empty_lawful c.new.result c.new.ensures }
 
 pub returns : goal.returns
 returns g c =

@@ -8,5 +8,5 @@ loop-unit-init c = some_none _
 pub loop-unit-preserved : goal.loop-unit-preserved
 loop-unit-preserved c = some_more _ _ c.loop-unit.invariant (search rules)
 
-pub returns-then-is-some : goal.returns-then-is-some
-returns-then-is-some c = some_answers _ _ c.loop-unit.unit c.loop-unit-test.true (search rules)
+pub returns-then-is_some : goal.returns-then-is_some
+returns-then-is_some c = some_answers _ _ c.loop-unit.unit c.loop-unit-test.true (search rules)

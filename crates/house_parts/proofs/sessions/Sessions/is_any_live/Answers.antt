@@ -8,5 +8,5 @@ loop-session-init c = some_none _
 pub loop-session-preserved : goal.loop-session-preserved
 loop-session-preserved c = some_more _ _ c.loop-session.invariant (search rules)
 
-pub returns-then-is-some : goal.returns-then-is-some
-returns-then-is-some c = some_answers _ _ c.loop-session.session c.loop-session-test.true (search rules)
+pub returns-then-is_some : goal.returns-then-is_some
+returns-then-is_some c = some_answers _ _ c.loop-session.session c.loop-session-test.true (search rules)

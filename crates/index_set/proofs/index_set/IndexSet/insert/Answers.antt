@@ -1,7 +1,7 @@
 use Rattle.std.proofs.Common.{sym, refl, ap, ◌∙◌, arith}
 use Rattle.std.proofs.ByRecursion.{all_from_every}
 use Rattle.std.proofs.lemmas.List.{take_more_set, length-set}
-use Rattle.std.specs.Map.Invariant.{is-distinct}
+use Rattle.index_set.specs.Distinct.{is_distinct}
 use Rattle.index_set.specs.Items.{items_of}
 use Rattle.index_set.proofs.Apart.{apart_push}
 use Rattle.index_set.proofs.Inserts.{inserts, is_full_lem}
@@ -14,9 +14,9 @@ returns g c =
     let e = g.X.Same.alike in
     let n = items_length e s c.requires in
     let m = take_more_set s.places.now s.len c.args.x (omega arith) in
-    let a = c.in-default.ensures in
+    let a = c.in_default.ensures in
     record {
-      orderly = (omega arith, simp length-set c.requires.1, ap (is-distinct e) m ∙ apart_push e (items_of s) c.args.x (all_from_every _ (items_of s) a.words) c.requires.2);
+      orderly = (omega arith, simp length-set c.requires.1, ap (is_distinct e) m ∙ apart_push e (items_of s) c.args.x (all_from_every _ (items_of s) a.words) c.requires.2);
       answer = inserts e (items_of s) c.args.x s.len s.limit a.place n (omega arith);
       words = (sym n, a.words, omega arith);
       items = m;

@@ -1,7 +1,7 @@
 use Rattle.std.proofs.Common.{sym, refl, ap, ◌∙◌}
 use lib.Seq.{take-set-lt}
 use Rattle.std.proofs.lemmas.List.{length-set}
-use Rattle.std.specs.Map.Invariant.{is-distinct}
+use Rattle.index_set.specs.Distinct.{is_distinct}
 use Rattle.index_set.specs.Found.{is_alike}
 use Rattle.index_set.specs.Items.{items_of}
 use Rattle.index_set.proofs.Apart.{apart_set}
@@ -27,7 +27,7 @@ returns g c =
     let t = c.if-not-same.ensures ∙ ap (λ o. is_alike e o c.args.x) (sym (items_at e s c.requires c.args.index _ c.if-index-self.false)) in
     let m = take-set-lt s.len s.places.now c.args.index c.args.x c.if-index-self.false in
     record {
-      orderly = (c.requires.0, simp length-set c.requires.1, ap (is-distinct e) m ∙ apart_set e g.met.X.Same.symmetric g.met.X.Same.transitive c.args.x (items_of s) c.args.index (sym t) c.requires.2);
+      orderly = (c.requires.0, simp length-set c.requires.1, ap (is_distinct e) m ∙ apart_set e g.met.X.Same.symmetric g.met.X.Same.transitive c.args.x (items_of s) c.args.index (sym t) c.requires.2);
       answer = t;
       items = m;
       limit = refl;

@@ -1,5 +1,5 @@
 use Rattle.std.proofs.Common.{sym, refl, ap, ◌∙◌, arith}
-use Rattle.std.specs.Map.Invariant.{is-distinct}
+use Rattle.index_set.specs.Distinct.{is_distinct}
 use Rattle.index_set.specs.Items.{items_of}
 use Rattle.index_set.proofs.Apart.{apart_removed}
 use Rattle.index_set.proofs.Moves.{removed_past}
@@ -17,9 +17,9 @@ pub returns : goal.returns
 returns g c =
     let s = c.args.self.now in
     let e = g.X.Same.alike in
-    let m = c.close-gap.ensures.items in
+    let m = c.close_gap.ensures.items in
     record {
-      orderly = (omega (arith, c.requires.0), omega (arith, c.requires.1, c.close-gap.ensures.len), ap (is-distinct e) m ∙ apart_removed e (items_of s) c.args.index c.requires.2);
+      orderly = (omega (arith, c.requires.0), omega (arith, c.requires.1, c.close_gap.ensures.len), ap (is_distinct e) m ∙ apart_removed e (items_of s) c.args.index c.requires.2);
       answer = sym (items_at e s c.requires c.args.index _ c.if-index-self.false);
       items = m;
       limit = refl;

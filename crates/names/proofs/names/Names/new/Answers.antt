@@ -17,7 +17,7 @@ returns c =
       role_pairs = c.empty-9.result;
     }
     in (
-      c.if-memory-lt-NAME-PLACES.false,
+      c.if-memory-lt-NAME_PLACES.false,
       all_tidy n c.empty.ensures c.empty-2.ensures c.empty-3.ensures c.empty-4.ensures c.empty-5.ensures c.empty-6.ensures c.empty-7.ensures c.empty-8.ensures c.empty-9.ensures,
       all_empty n c.empty.ensures c.empty-2.ensures c.empty-3.ensures c.empty-4.ensures c.empty-5.ensures c.empty-6.ensures c.empty-7.ensures c.empty-8.ensures c.empty-9.ensures,
     )

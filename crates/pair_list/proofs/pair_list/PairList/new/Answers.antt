@@ -4,8 +4,8 @@ use Rattle.stores.proofs.Lists.{listed_none}
 use Rattle.pair_list.proofs.Keeping.{bounds_none}
 use Rattle.pair_list.proofs.pair_list.PairList.new.Goals as goal
 
-pub invariant-of-result : goal.invariant-of-result
-invariant-of-result c = (c.requires.orderly, (c.requires.places, (ap all_in_bounds c.requires.empty ∙ bounds_none, tt)))
+pub invariant_of-result : goal.invariant_of-result
+invariant_of-result c = record { orderly = c.requires.orderly; places = c.requires.places; within = ap all_in_bounds c.requires.empty ∙ bounds_none }
 
 pub returns : goal.returns
 returns c = ap listed c.requires.empty ∙ listed_none

@@ -6,4 +6,4 @@ use Rattle.pair_list.proofs.pair_list.PairListPairSet.contains.Goals as goal
 pub returns : goal.returns
 returns c =
     let s = c.args.self.now in
-    c.is-some.ensures ∙ listed_told (items_of s.list) (record { left = c.args.left; right = c.args.right }) _ s.within c.index-of.ensures.words
+    c.is_some.ensures ∙ listed_told (items_of s.list) (record { left = c.args.left; right = c.args.right }) _ s.within c.index_of.ensures.words

@@ -12,12 +12,12 @@ returns-then-left-ge-LEFTS c =
     let o = bounds_false c.args.left c.args.right c.then-left-ge-LEFTS.either in
     record { answer = rw o; after = sym (with_out _ _ _ o) }
 
-pub invariant-of-self : goal.invariant-of-self
-invariant-of-self c =
+pub invariant_of-self : goal.invariant_of-self
+invariant_of-self c =
     let s = c.args.self.now in
     let e = c.insert.ensures in
     let b = bounds_true c.args.left c.args.right c.if-left-ge-LEFTS.false c.if-right-ge-RIGHTS.false in
-    (e.orderly, (e.limit ∙ s.places, (ap all_in_bounds e.items ∙ bounds_grown c.insert.result (items_of s.list) _ b s.within, tt)))
+    record { orderly = e.orderly; places = e.limit ∙ s.places; within = ap all_in_bounds e.items ∙ bounds_grown c.insert.result (items_of s.list) _ b s.within }
 
 pub returns-in-Inserted : goal.returns-in-Inserted
 returns-in-Inserted c =

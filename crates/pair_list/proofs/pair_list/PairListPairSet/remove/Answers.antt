@@ -6,11 +6,11 @@ use Rattle.pair_list.proofs.Listing.{listed_absent, listed_found, listed_removed
 use Rattle.pair_list.proofs.Keeping.{bounds_removed}
 use Rattle.pair_list.proofs.pair_list.PairListPairSet.remove.Goals as goal
 
-pub invariant-of-self : goal.invariant-of-self
-invariant-of-self c =
+pub invariant_of-self : goal.invariant_of-self
+invariant_of-self c =
     let s = c.args.self.now in
-    let e = c.shift-remove.ensures in
-    (e.orderly, (e.limit ∙ s.places, (ap all_in_bounds e.items ∙ bounds_removed (items_of s.list) _ s.within, tt)))
+    let e = c.shift_remove.ensures in
+    record { orderly = e.orderly; places = e.limit ∙ s.places; within = ap all_in_bounds e.items ∙ bounds_removed (items_of s.list) _ s.within }
 
 pub returns-in-Some : goal.returns-in-Some
 returns-in-Some c =
@@ -18,7 +18,7 @@ returns-in-Some c =
     let t = c.in-Some.ensures.words in
     record {
       answer = sym (listed_found (items_of s.list) (record { left = c.args.left; right = c.args.right }) _ s.within t);
-      after = ap listed c.shift-remove.ensures.items ∙ listed_removed (items_of s.list) (record { left = c.args.left; right = c.args.right }) _ s.within s.orderly.2 t;
+      after = ap listed c.shift_remove.ensures.items ∙ listed_removed (items_of s.list) (record { left = c.args.left; right = c.args.right }) _ s.within s.orderly.2 t;
     }
 
 pub returns-in-None : goal.returns-in-None

@@ -6,11 +6,11 @@ pub returns-in-Ok : goal.returns-in-Ok
 returns-in-Ok c =
     let got = c.in-Ok.ensures.reads in
     let goes = over_record c.args.self.now.text.now c.args.self.now.at c.in-Ok.record.next c.if-self.false got.1 got.2.0 got.2.2 in
-    record { text = refl; room = c.read-record.ensures.room; onward = (goes.ahead, goes.within); gives = (got.0, refl, (got.2.0, got.2.1, goes)) }
+    record { text = refl; room = c.read_record.ensures.room; onward = (goes.ahead, goes.within); gives = (got.0, refl, (got.2.0, got.2.1, goes)) }
 
 pub returns-in-Err : goal.returns-in-Err
 returns-in-Err c =
     let got = c.in-Err.ensures.reads in
-    let next = c.behind-break-self.ensures in
-    let goes = over_fault c.args.self.now.text.now c.args.self.now.at c.behind-break-self.result c.if-self.false next.within c.in-Err.at _ got.1 next.behind in
-    record { text = refl; room = c.read-record.ensures.room; onward = (goes.ahead, goes.within); gives = (c.in-Err.at, refl, goes) }
+    let next = c.behind_break-self.ensures in
+    let goes = over_fault c.args.self.now.text.now c.args.self.now.at c.behind_break-self.result c.if-self.false next.within c.in-Err.at _ got.1 next.behind in
+    record { text = refl; room = c.read_record.ensures.room; onward = (goes.ahead, goes.within); gives = (c.in-Err.at, refl, goes) }

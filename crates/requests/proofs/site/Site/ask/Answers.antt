@@ -11,7 +11,7 @@ returns-in-Start g c =
     let p = site_of g.S.PairSet.pairs g.T.PairSet.pairs c.args.self.now in
     let w = c.in-Start in
     let a = Start w.session w.user in
-    let e = c.start-session.ensures in
+    let e = c.start_session.ensures in
     record {
       answer = λ _. asked_answer p c.args.asked a w.is _ (c.said.ensures ∙ e.answer);
       after = λ _. asked_left p c.args.asked a w.is _ (ran_to p (calls_for p a) _ _ e.same e.after);
@@ -23,7 +23,7 @@ returns-in-End g c =
     let p = site_of g.S.PairSet.pairs g.T.PairSet.pairs c.args.self.now in
     let w = c.in-End in
     let a = End w.session in
-    let e = c.end-session.ensures in
+    let e = c.end_session.ensures in
     record {
       answer = λ _. asked_answer p c.args.asked a w.is _ (c.said-in-End.ensures ∙ e.answer);
       after = λ _. asked_left p c.args.asked a w.is _ (ran_to p (calls_for p a) _ _ e.same e.after);
@@ -35,7 +35,7 @@ returns-in-Activate g c =
     let p = site_of g.S.PairSet.pairs g.T.PairSet.pairs c.args.self.now in
     let w = c.in-Activate in
     let a = Activate w.session w.role in
-    let e = c.activate-role.ensures in
+    let e = c.activate_role.ensures in
     record {
       answer = λ _. asked_answer p c.args.asked a w.is _ (c.said-in-Activate.ensures ∙ e.answer);
       after = λ _. asked_left p c.args.asked a w.is _ (ran_to p (calls_for p a) _ _ e.same e.after);
@@ -47,7 +47,7 @@ returns-in-Drop g c =
     let p = site_of g.S.PairSet.pairs g.T.PairSet.pairs c.args.self.now in
     let w = c.in-Drop in
     let a = Drop w.session w.role in
-    let e = c.deactivate-role.ensures in
+    let e = c.deactivate_role.ensures in
     record {
       answer = λ _. asked_answer p c.args.asked a w.is _ (c.said-in-Drop.ensures ∙ e.answer);
       after = λ _. asked_left p c.args.asked a w.is _ (ran_to p (calls_for p a) _ _ e.same e.after);
@@ -70,7 +70,7 @@ returns-in-Change g c =
     let p = site_of g.S.PairSet.pairs g.T.PairSet.pairs c.args.self.now in
     let w = c.in-Change in
     let a = Change w.user w.unit w.change w.spot in
-    let e = c.change-at.ensures in
+    let e = c.change_at.ensures in
     record {
       answer = λ h. asked_answer p c.args.asked a w.is _ (c.said-in-Change.ensures ∙ e.answer h);
       after = λ h. asked_left p c.args.asked a w.is _ (ran_to p (calls_for p a) _ _ e.same (e.after h));
@@ -94,7 +94,7 @@ returns-in-Clock g c =
     let p = site_of g.S.PairSet.pairs g.T.PairSet.pairs c.args.self.now in
     let w = c.in-Clock in
     let a = Clock w.minute in
-    let e = c.set-minute.ensures in
+    let e = c.set_minute.ensures in
     record {
       answer = λ _. asked_answer p c.args.asked a w.is _ (c.said-in-Clock.ensures ∙ ap said e.answer);
       after = λ _. asked_left p c.args.asked a w.is _ (told_to p _ _ _ _ _ _ refl e.minute e.windows);
@@ -106,7 +106,7 @@ returns-in-Window g c =
     let p = site_of g.S.PairSet.pairs g.T.PairSet.pairs c.args.self.now in
     let w = c.in-Window in
     let a = Window w.condition w.from w.to in
-    let e = c.set-window.ensures in
+    let e = c.set_window.ensures in
     record {
       answer = λ _. asked_answer p c.args.asked a w.is _ (c.said-in-Window.ensures ∙ ap said e.answer);
       after = λ _. asked_left p c.args.asked a w.is _ (told_to p _ _ _ _ _ _ refl e.minute e.windows);

@@ -20,4 +20,4 @@ pub returns : goal.returns
 returns c =
     let t = c.if-contains.ensures in
     let h = c.if-number-ge-NUMBERS.false in
-    record { answer = grind (arith, nat_tests); after = flip_in _ _ _ h c.flipped.ensures (sym t); exact = c.flipped.ensures ∙ sym (row_absent _ _ h (sym t)) }
+    record { answer = grind (arith, nat_tests); after = flip_in _ _ _ h c.flipped.ensures.exact (sym t); exact = c.flipped.ensures.exact ∙ sym (row_absent _ _ h (sym t)) }

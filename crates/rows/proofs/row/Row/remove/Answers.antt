@@ -13,4 +13,4 @@ flipped-requires c = bits_below c.args.self.now.bits c.args.number (sym c.if-not
 pub returns : goal.returns
 returns c =
     let t = c.if-not-contains.ensures in
-    record { answer = t; after = flip_out _ _ _ (bits_below c.args.self.now.bits c.args.number (sym t)) c.flipped.ensures (sym t) }
+    record { answer = t; after = flip_out _ _ _ (bits_below c.args.self.now.bits c.args.number (sym t)) c.flipped.ensures.exact (sym t) }

@@ -6,7 +6,7 @@ pub loop-number-init : goal.loop-number-init
 loop-number-init c = first_none _
 
 pub loop-number-preserved : goal.loop-number-preserved
-loop-number-preserved c = first_more _ _ c.loop-number.invariant (sym c.is_permission_lem.ensures ∙ c.if-is-permission.false)
+loop-number-preserved c = first_more _ _ c.loop-number.invariant (sym c.is_permission.ensures ∙ c.if-is_permission.false)
 
-pub returns-then-is-permission : goal.returns-then-is-permission
-returns-then-is-permission c = sym (first_found _ 64 _ c.loop-number-test.true c.loop-number.invariant (sym c.is_permission_lem.ensures ∙ c.if-is-permission.true))
+pub returns-then-is_permission : goal.returns-then-is_permission
+returns-then-is_permission c = sym (first_found _ 64 _ c.loop-number-test.true c.loop-number.invariant (sym c.is_permission.ensures ∙ c.if-is_permission.true))
