@@ -10,7 +10,7 @@ use conditions::ConditionSet;
 use refusals::{Answer, Refusal};
 use rows::Row;
 use rules::{Call, LeaseNumbers, Spot};
-use runs::Machine;
+use runs::SoundMachine;
 use stores::PairSet;
 
 impl<S: PairSet, T: PairSet> Keeper<S, T> {
@@ -123,7 +123,7 @@ impl<S: PairSet, T: PairSet> Keeper<S, T> {
 }
 
 // A house is sound where no role reaches a permission that is barred to it.
-impl<S: PairSet, T: PairSet> Machine for Keeper<S, T> {
+impl<S: PairSet, T: PairSet> SoundMachine for Keeper<S, T> {
     ghost draft = { draft_in };
 
     ghost state = { state_in S.PairSet.pairs T.PairSet.pairs };

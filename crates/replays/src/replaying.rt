@@ -44,7 +44,7 @@ pub fn replay<S: PairSet, T: PairSet>(
     let opened = house.open(draft);
     let mut keeper = Keeper::new(house);
     let history = match opened {
-        Ok(()) => match runs::replay(heap, &mut keeper, calls) {
+        Ok(()) => match runs::replay_sound(heap, &mut keeper, calls) {
             Ok(history) => Ok(history),
             Err(_) => Err(Failure::NoMemory),
         },

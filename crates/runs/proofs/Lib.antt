@@ -7,4 +7,4 @@ mod Leases
 mod Afterwards
 mod Uses
 mod Ordering
-mod Ruling
+pub mod Ruling

@@ -20,15 +20,15 @@ returns g c =
     let s = ap (state_of S T) c.new-keeper.ensures in
     let new = c.new-house.ensures in
     elim c.match-opened.branch [
-      | goal.in-Ok+in-Ok-replay w ↦
+      | goal.in-Ok+in-Ok-replay_sound w ↦
           let a = w.in-Ok.ensures in
-          let m = w.replay.new.machine in
+          let m = w.replay_sound.new.machine in
           let t = sound_at _ (draft_in n) _ (state_in S T n) e s (a.opened refl) in
-          played_ok S T d _ _ m w.keeper-is _ w.in-Ok-replay.history w.history-is
-          (ran d (draft_in n) (draft_in m) (state_in S T n) (state_in S T m) _ _ (opened_lawful _ d _ new.state a.answer) (e ∙ a.draft) (s ∙ a.state) w.replay.ensures.same (w.in-Ok-replay.ensures.run t))
-      | goal.in-Ok+in-Err-replay w ↦
+          played_ok S T d _ _ m w.keeper-is _ w.in-Ok-replay_sound.history w.history-is
+          (ran d (draft_in n) (draft_in m) (state_in S T n) (state_in S T m) _ _ (opened_lawful _ d _ new.state a.answer) (e ∙ a.draft) (s ∙ a.state) w.replay_sound.ensures.same (w.in-Ok-replay_sound.ensures.run t))
+      | goal.in-Ok+in-Err-replay_sound w ↦
           let a = w.in-Ok.ensures in
-          let m = w.in-Err-replay.ensures.run in
+          let m = w.in-Err-replay_sound.ensures.run in
           played_err S T d _ _ n (w.keeper-is ∙ m) _ NoMemory w.history-is (opened_lawful _ d _ new.state a.answer, e ∙ a.draft, s ∙ a.state)
       | goal.in-Err w ↦
           let a = w.in-Err.ensures in

@@ -11,7 +11,7 @@ returns-in-Some c =
     let k = c.args.numbers in
     let xs = c.args.self.now.by_unit in
     let e : get_or xs k.unit None ≡ Some c.in-Some.lease = search rules in
-    c.is-same.ensures ∙ ap (λ n. same_numbers n k) c.numbers.ensures ∙ lease_at xs k (Some c.in-Some.lease) c.if-numbers-ge-UNITS.false e
+    c.is_same.ensures ∙ ap (λ n. same_numbers n k) c.numbers.ensures ∙ lease_at xs k (Some c.in-Some.lease) c.if-numbers-ge-UNITS.false e
 
 pub returns-in-None : goal.returns-in-None
 returns-in-None c =

@@ -6,22 +6,19 @@ use Rattle.replays.proofs.Tying.{tie_acquired, unit_below, no_other}
 use Rattle.rules.specs.declared.call.LeaseNumbers.{LeaseNumbers}
 use Rattle.replays.proofs.keeper.Keeper.acquire.Goals as goal
 
-pub invariant-of-self : goal.invariant-of-self
-invariant-of-self g c =
+pub invariant_of-self : goal.invariant_of-self
+invariant_of-self g c =
     let d = draft_in c.args.self.now in
     let s = state_in g.S.PairSet.pairs g.T.PairSet.pairs c.args.self.now in
     let h = held_of c.args.self.now.held in
     let e = c.in-Ok.ensures in
     let k = c.in-Ok.lease.numbers in
-    let b : k.unit < 16 = rw (ap (λ (x : LeaseNumbers). x.unit) e.lease) (unit_below d s c.args.unit c.args.user e.answer) in (
-      tie_acquired d (draft_of c.acquire.new.self) s (state_of g.S.PairSet.pairs g.T.PairSet.pairs c.acquire.new.self) c.args.unit c.args.user k h (held_of c.insert.new.self)
-          e.answer e.same e.after e.lease (c.insert.ensures.after b) c.args.self.now.tied,
-      tt,
-    )
+    let b : k.unit < 16 = rw (ap (λ (x : LeaseNumbers). x.unit) e.lease) (unit_below d s c.args.unit c.args.user e.answer) in record { tied = tie_acquired d (draft_of c.acquire.new.self) s (state_of g.S.PairSet.pairs g.T.PairSet.pairs c.acquire.new.self) c.args.unit c.args.user k h (held_of c.insert.new.self)
+          e.answer e.same e.after e.lease (c.insert.ensures.after b) c.args.self.now.tied }
 
 -- no lease of the unit was held before
-pub invariant-of-self-in-Some : goal.invariant-of-self-in-Some
-invariant-of-self-in-Some g c =
+pub invariant_of-self-in-Some : goal.invariant_of-self-in-Some
+invariant_of-self-in-Some g c =
     let d = draft_in c.args.self.now in
     let s = state_in g.S.PairSet.pairs g.T.PairSet.pairs c.args.self.now in
     let h = held_of c.args.self.now.held in

@@ -15,7 +15,7 @@ returns-in-RolePair g c =
     let h = held_of c.args.self.now.held in
     let e = c.in-Some.ensures.0 in
     let x = sym c.in-RolePair.is in
-    let a = c.assign-role-pair.ensures in
+    let a = c.assign_role_pair.ensures in
     record {
       answer = λ t. c.said.ensures ∙ a.answer t ∙ (λ i. judge d s (Assign (e i) (x i)));
       after = λ t. a.after t ∙ (λ i. after d s (Assign (e i) (x i)));
@@ -29,7 +29,7 @@ returns-in-Permission g c =
     let h = held_of c.args.self.now.held in
     let e = c.in-Some.ensures.0 in
     let x = sym c.in-Permission.is in
-    let a = c.assign-permission.ensures in
+    let a = c.assign_permission.ensures in
     record {
       answer = λ t. c.said-in-Permission.ensures ∙ a.answer t ∙ (λ i. judge d s (Assign (e i) (x i)));
       after = λ t. a.after t ∙ (λ i. after d s (Assign (e i) (x i)));

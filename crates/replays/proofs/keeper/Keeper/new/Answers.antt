@@ -1,5 +1,5 @@
 use Rattle.replays.proofs.Tying.{tie_none}
 use Rattle.replays.proofs.keeper.Keeper.new.Goals as goal
 
-pub invariant-of-result : goal.invariant-of-result
-invariant-of-result g c = (tie_none _ _ _ c.requires c.new.ensures, tt)
+pub invariant_of-result : goal.invariant_of-result
+invariant_of-result g c = record { tied = tie_none _ _ _ c.requires c.new.ensures }

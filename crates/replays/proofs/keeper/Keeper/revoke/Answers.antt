@@ -15,7 +15,7 @@ returns-in-RolePair g c =
     let h = held_of c.args.self.now.held in
     let e = c.in-Some.ensures.0 in
     let x = sym c.in-RolePair.is in
-    let a = c.revoke-role-pair.ensures in
+    let a = c.revoke_role_pair.ensures in
     record {
       answer = c.said.ensures ∙ a.answer ∙ (λ i. judge d s (Revoke (e i) (x i)));
       after = a.after ∙ (λ i. after d s (Revoke (e i) (x i)));
@@ -29,7 +29,7 @@ returns-in-Permission g c =
     let h = held_of c.args.self.now.held in
     let e = c.in-Some.ensures.0 in
     let x = sym c.in-Permission.is in
-    let a = c.revoke-permission.ensures in
+    let a = c.revoke_permission.ensures in
     record {
       answer = c.said-in-Permission.ensures ∙ a.answer ∙ (λ i. judge d s (Revoke (e i) (x i)));
       after = a.after ∙ (λ i. after d s (Revoke (e i) (x i)));

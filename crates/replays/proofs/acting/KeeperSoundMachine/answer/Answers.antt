@@ -2,7 +2,7 @@ use Rattle.std.proofs.Common.{sym, refl, ap, ◌∙◌}
 use Rattle.rules.specs.Judging.{judge, after}
 use Rattle.replays.specs.Keeping.{draft_in, state_in}
 use Rattle.replays.proofs.Sounding.{stays_sound, looked}
-use Rattle.replays.proofs.acting.KeeperMachine.answer.Goals as goal
+use Rattle.replays.proofs.acting.KeeperSoundMachine.answer.Goals as goal
 
 pub returns-in-Acquire : goal.returns-in-Acquire
 returns-in-Acquire g c =
