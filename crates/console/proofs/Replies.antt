@@ -16,7 +16,7 @@ use Rattle.std.proofs.lemmas.Fmt.{length-decimal-le}
 use Rattle.std.proofs.lemmas.Bool.{cases_lt}
 use Rattle.values.specs.Lines.{line_of, line_break}
 use Rattle.console.specs.Boxes.{Box}
-use Rattle.console.specs.Given.{given-reply, given-box, values_of}
+use Rattle.console.specs.Given.{given_reply, given_box, values_of}
 use Rattle.console.specs.Recording.{record_reply, record_box}
 use Rattle.console.specs.Texts.{value_in, kept_values, line_reply, line_box, reply_bytes}
 
@@ -44,8 +44,8 @@ kept_are r kept fs h k = ap (map value_of) (take_min r.count kept h) ∙ sym (sa
 pub record Answered (text : List ℕ) (at next : ℕ) (b : Box) (kept : List Field) (x : Result Record Refusal) : Type 0 where
   pub line : Line
   pub goes : Goes text at next line
-  pub reply : given-reply b kept x ≡ line_reply b line
-  pub box : given-box b kept x ≡ line_box b line
+  pub reply : given_reply b kept x ≡ line_reply b line
+  pub box : given_box b kept x ≡ line_box b line
 
 pub answered : (text : List ℕ) (at next : ℕ) (b : Box) (kept : List Field) (x : Result Record Refusal) → length kept ≡ 40 → Gives text at next kept (Some x) → Answered text at next b kept x
 answered text at next b kept (Ok r) h (s, n, (fs, k, goes)) =

@@ -3,7 +3,7 @@ ghost use Rattle.std.specs.Prelude.{◌≡◌, ◌<◌, ◌≤◌, ◌++◌, len
 ghost use Rattle.requests.specs.Sites.{SoundSite};
 ghost use Rattle.console.specs.Boxes.{box_of};
 ghost use Rattle.console.specs.Reading.{Stepped, Onward, WasRead, WasUnread};
-ghost use Rattle.console.specs.Given.{given-reply, given-box};
+ghost use Rattle.console.specs.Given.{given_reply, given_box};
 ghost use Rattle.console.specs.Texts.{reply_bytes};
 
 use crate::console::Console;
@@ -41,8 +41,8 @@ impl<'a, S: PairSet, T: PairSet> Console<'a, S, T> {
         fields: &[Field<'_>; KEPT_FIELDS],
     ) -> Option<Answer>
         requires { length fields.now ≡ 40 }
-        ensures answer { SoundSite (box_of S.PairSet.pairs T.PairSet.pairs self.old).site → result ≡ given-reply (box_of S.PairSet.pairs T.PairSet.pairs self.old) fields.now next }
-        ensures after { SoundSite (box_of S.PairSet.pairs T.PairSet.pairs self.old).site → (box_of S.PairSet.pairs T.PairSet.pairs self.new) ≡ given-box (box_of S.PairSet.pairs T.PairSet.pairs self.old) fields.now next }
+        ensures answer { SoundSite (box_of S.PairSet.pairs T.PairSet.pairs self.old).site → result ≡ given_reply (box_of S.PairSet.pairs T.PairSet.pairs self.old) fields.now next }
+        ensures after { SoundSite (box_of S.PairSet.pairs T.PairSet.pairs self.old).site → (box_of S.PairSet.pairs T.PairSet.pairs self.new) ≡ given_box (box_of S.PairSet.pairs T.PairSet.pairs self.old) fields.now next }
         ensures sound { SoundSite (box_of S.PairSet.pairs T.PairSet.pairs self.old).site → SoundSite (box_of S.PairSet.pairs T.PairSet.pairs self.new).site }
     {
         match next {

@@ -5,10 +5,10 @@ use Rattle.console.specs.Recording.{numbered}
 use Rattle.console.proofs.Refusing.{not_ok, kept_draft}
 use Rattle.console.proofs.doing.open.Goals as goal
 
-pub returns-in-default : goal.returns-in-default
-returns-in-default g c =
+pub returns-in_default : goal.returns-in_default
+returns-in_default g c =
     let b = box_at g.S.PairSet.pairs g.T.PairSet.pairs c.args.sheet.now c.args.site.now in
     let d = numbered b.draft c.args.number in
     let a = c.open-answer.ensures in
-    let e = kept_draft b d (not_ok _ (opening b.site.state d) a.answer c.in-default.not-Accepted) in
+    let e = kept_draft b d (not_ok _ (opening b.site.state d) a.answer c.in_default.not-Accepted) in
     record { tidy = c.requires; answer = a.answer; after = λ i. record { names = b.names; draft = e i; site = a.after i }; sound = a.sound }

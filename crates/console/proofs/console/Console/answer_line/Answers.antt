@@ -1,7 +1,7 @@
 use Rattle.std.proofs.Common.{◌≡◌, ◌-◌, min, take, sym, ap, ◌∙◌, arith}
 use Rattle.forms.specs.Fields.{values}
 use Rattle.console.specs.Boxes.{box_of}
-use Rattle.console.specs.Given.{given-reply, given-box}
+use Rattle.console.specs.Given.{given_reply, given_box}
 use Rattle.console.specs.Recording.{record_reply, record_box}
 use Rattle.console.proofs.console.Console.answer_line.Goals as goal
 
@@ -14,7 +14,7 @@ returns-in-Ok g c =
     let n : c.kept.result - 0 ≡ min r.count 40 = omega (arith, c.kept.ensures) in
     let e = sym c.in-Ok.is in
     record {
-      answer = λ s. t.answer s ∙ ap (λ m. record_reply b r.start r.count (values (take m kept))) n ∙ ap (given-reply b kept) e;
-      after = λ s. t.after s ∙ ap (λ m. record_box b r.start r.count (values (take m kept))) n ∙ ap (given-box b kept) e;
+      answer = λ s. t.answer s ∙ ap (λ m. record_reply b r.start r.count (values (take m kept))) n ∙ ap (given_reply b kept) e;
+      after = λ s. t.after s ∙ ap (λ m. record_box b r.start r.count (values (take m kept))) n ∙ ap (given_box b kept) e;
       sound = t.sound;
     }

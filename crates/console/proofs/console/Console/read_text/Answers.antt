@@ -7,7 +7,7 @@ use Rattle.console.proofs.console.Console.read_text.Goals as goal
 pub lines-init : goal.lines-init
 lines-init g c =
     let a = c.in-Ok.ensures in
-    let m = c.in-Ok-with-capacity.ensures.made in
+    let m = c.in-Ok-with_capacity.ensures.made in
     (a.1, refl, omega (arith, a.2), omega (arith, m.1.1), omega (arith, m.1.0), (λ s. s), (λ s. none_yet _ _ _ _ a.2 m.0))
 
 pub lines-preserved : goal.lines-preserved
@@ -16,11 +16,11 @@ lines-preserved g c =
     let r = c.in-Ok-record.ensures in
     let reply = c.in-Some.reply in
     let on = went_on (length c.lines.line) (length c.lines.records.text.now) c.lines.records.at c.record.new.records.at _ reply c.in-Some.is r.onward in
-    let x = c.extend-from-slice.ensures in
-    let ok : is_ok c.extend-from-slice.result ≡ true = search rules in
+    let x = c.extend_from_slice.ensures in
+    let ok : is_ok c.extend_from_slice.result ≡ true = search rules in
     let n = reply.written in
-    let items = appended _ (vec_items c.lines.answers) (vec_items c.extend-from-slice.new.self) (take (n - 0) c.record.new.line) ok x.items in
-    let len = grown _ (vec_len c.lines.answers) (vec_len c.extend-from-slice.new.self) n c.record.new.line ok x.len in
+    let items = appended _ (vec_items c.lines.answers) (vec_items c.extend_from_slice.new.self) (take (n - 0) c.record.new.line) ok x.items in
+    let len = grown _ (vec_len c.lines.answers) (vec_len c.extend_from_slice.new.self) n c.record.new.line ok x.len in
     let e = ap length i.0 in (
       ap (λ y. y.now) r.text ∙ i.0,
       search rules,
@@ -40,12 +40,12 @@ returns g c =
     let k = box_of S T c.record.new.self in
     let i = c.lines.invariant in
     let r = c.in-Ok-record.ensures in
-    let end = at_end (length c.lines.line) (length c.lines.records.text.now) c.lines.records.at c.record.new.records.at _ c.in-default-next.not-Some r.onward in
+    let end = at_end (length c.lines.line) (length c.lines.records.text.now) c.lines.records.at c.record.new.records.at _ c.in_default-next.not-Some r.onward in
     let done : length text ≤ c.lines.records.at = omega (arith, end, ap length i.0) in
     record {
       read = λ s.
           let f = i.6 s in
-          let e = ended _ _ _ _ _ _ _ _ c.in-default-next.not-Some (r.step (i.5 s)) ∙ f.box in
+          let e = ended _ _ _ _ _ _ _ _ c.in_default-next.not-Some (r.step (i.5 s)) ∙ f.box in
           record {
             lines = f.lines;
             reading = whole text c.lines.records.at b _ _ done f;

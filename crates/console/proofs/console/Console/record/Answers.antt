@@ -9,8 +9,8 @@ returns g c =
     let b = box_of g.S.PairSet.pairs g.T.PairSet.pairs c.args.self.now in
     let t = c.in-Some.ensures in
     let a = answered _ _ _ b _ c.in-Some.next t.room t.gives in
-    let l = c.answer-line-answer.ensures in
-    let w = c.write-reply-written.ensures in
+    let l = c.answer_line-answer.ensures in
+    let w = c.write_reply-written.ensures in
     let before = c.args.line.now in
     record {
       text = t.text;
