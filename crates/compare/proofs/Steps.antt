@@ -2,7 +2,6 @@
 use Rattle.std.proofs.Common.{◌≡◌, ℕ, ◌+◌, ◌<◌, Bool, List, [], ◌∷◌, ◌++◌, map, length, get_or, take, sym, refl, ap, ◌∙◌}
 use Rattle.std.proofs.ByRecursion.{All-push}
 use Rattle.std.proofs.lemmas.List.{map_push, take_more}
-use Rattle.std.specs.List.{AllByRecursion as All}
 use Rattle.stores.specs.Listed.{listed}
 use Rattle.stores.specs.declared.pair.Pair.{Pair}
 use Rattle.compare.specs.Agreeing.{Agreed}

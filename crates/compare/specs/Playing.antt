@@ -1,7 +1,6 @@
 -- Steps played on a set of pairs.
 use Rattle.std.specs.Prelude.{ℕ, Bool, not, ◌&&◌, List, [], ◌∷◌}
 use Rattle.stores.specs.Pairs.{in_bounds, with_pair, without_pair}
-use Rattle.stores.specs.declared.pair.Pair.{Pair}
 use Rattle.compare.specs.declared.step.Step.{Step}
 use Rattle.compare.specs.declared.step.Step.TheVariants.{Insert, Remove, Contains}
 

@@ -1,5 +1,5 @@
 -- No number that is no condition holds: the facts that each source hands to the trait.
-use Rattle.std.specs.Prelude.{◌≡◌, ℕ, Bool, true, false, cond, nat_lt, slice_index_or}
+use Rattle.std.specs.Prelude.{◌≡◌, ℕ, Bool, true, cond, nat_lt, slice_index_or}
 use Rattle.std.proofs.Common.{⊎_elim, sym, ◌∙◌, ap}
 use Rattle.std.proofs.lemmas.Bool.{and_parts, cases_Bool, cond_both, false≢true}
 use Rattle.rows.specs.Numbers.{bits_of, in_row}

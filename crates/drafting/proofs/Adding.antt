@@ -21,7 +21,7 @@ use Rattle.tables.specs.declared.parts.Entry.{Entry}
 use Rattle.tables.specs.declared.parts.Permission.{Permission}
 use Rattle.tables.specs.declared.parts.RolePair.{RolePair}
 use Rattle.tables.specs.declared.relation.Relation.{Relation}
-use Rattle.tables.specs.declared.table.Table.TheVariants.{Things, Permissions, RolePairs, Entries}
+use Rattle.tables.specs.declared.table.Table.TheVariants.{Permissions, RolePairs, Entries}
 use Rattle.tables.specs.declared.table.Thing.TheVariants.{Role, Device, Operation, Condition, EnvironmentRole}
 use Rattle.drafting.specs.Effects.{set_from_lem, draft_after}
 use Rattle.drafting.specs.Fit.{Fit}

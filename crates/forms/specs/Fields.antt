@@ -1,5 +1,5 @@
 -- What the fields of a record say. The record name is the first field; place 0 is that of the field behind it.
-use Rattle.std.specs.Prelude.{ℕ, ◌+◌, Bool, true, false, List, [], ◌∷◌, map, Some, None, Option, slice_index_or}
+use Rattle.std.specs.Prelude.{ℕ, ◌+◌, Bool, false, List, [], map, Some, None, Option, slice_index_or}
 use Rattle.records.specs.declared.field.Field.{Field}
 use Rattle.records.specs.Views.{value_of}
 use Rattle.values.specs.Numbers.{number_of}

@@ -1,6 +1,6 @@
 -- A list in which no two items are the same stays so.
-use Rattle.std.proofs.Common.{◌≡◌, ℕ, zero, suc, Bool, true, false, not, ◌&&◌, List, [], ◌∷◌, ◌++◌, set, sym, refl, ap, ◌∙◌, ⊎_elim}
-use Rattle.std.specs.List.{slice_get, remove, list_all, AllByRecursion as All}
+use Rattle.std.proofs.Common.{◌≡◌, ℕ, zero, suc, Bool, true, false, not, List, [], ◌∷◌, ◌++◌, set, refl, ◌∙◌, ⊎_elim}
+use Rattle.std.specs.List.{remove, list_all, AllByRecursion as All}
 use Rattle.index_set.specs.Distinct.{is_distinct}
 use Rattle.std.proofs.lemmas.Bool.{and_parts, and_from, cases_Bool, both_ways, not-true, not_from_false}
 use Rattle.index_set.specs.Found.{is_alike_at}

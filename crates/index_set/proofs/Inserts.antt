@@ -1,9 +1,8 @@
 -- What an insertion answers where the item is not there.
-use Rattle.std.proofs.Common.{◌≡◌, ℕ, ◌<◌, ◌≤◌, Bool, cond, ltb, List, length, None, sym, refl, ap, ◌∙◌}
+use Rattle.std.proofs.Common.{◌≡◌, ℕ, ◌<◌, ◌≤◌, Bool, cond, ltb, List, length, None, sym, ap, ◌∙◌}
 use Rattle.std.proofs.lemmas.Bool.{lt-ltb, le-ltb}
 use Rattle.index_set.specs.Found.{place_of}
 use Rattle.index_set.specs.Inserting.{placed, insertion_of}
-use Rattle.index_set.specs.declared.insertion.Insertion.{Insertion}
 use Rattle.index_set.specs.declared.insertion.Insertion.TheVariants.{Inserted, Full}
 
 module _ {X : Type 0} (alike : X → X → Bool) (xs : List X) (x : X) (n limit : ℕ) (absent : None ≡ place_of alike xs x) (long : length xs ≡ n) where

@@ -1,9 +1,8 @@
 -- What the check's answer says of a draft.
-use Rattle.std.proofs.Common.{◌≡◌, ℕ, zero, suc, ◌+◌, ◌-◌, ◌<◌, ◌≤◌, Bool, true, false, not, leb, ◌⊎◌, List, [], ◌∷◌, length, get_or, take, drop, is_some, Some, None, Ok, Err, Option, Result, sym, refl, ap, ◌∙◌, inl, inr, ⊎_elim, arith, lit<, MatchOption}
+use Rattle.std.proofs.Common.{◌≡◌, ℕ, zero, suc, ◌-◌, ◌<◌, ◌≤◌, Bool, true, false, not, leb, List, [], ◌∷◌, length, get_or, take, drop, is_some, Some, None, Option, Result, sym, refl, ap, ◌∙◌, ⊎_elim, arith, lit<, MatchOption}
 use Rattle.refusals.specs.Codes.{code_of}
 use Rattle.refusals.specs.declared.refusal.Refusal.{Refusal}
 use Rattle.search.specs.Below.{all_below}
-use Rattle.search.specs.Firsts.{first_pair}
 use Rattle.search.proofs.Finds.{pair_never, pair_clear, pair_at}
 use Rattle.search.proofs.Somes.{all_decides}
 use Rattle.std.proofs.lemmas.Bool.{cases_lt, leb-true, both_ways}

@@ -1,12 +1,10 @@
 -- The unit whose task holds a pair.
-use Rattle.std.proofs.Common.{◌≡◌, ℕ, ◌<◌, Bool, true, false, ◌&&◌, Some, None, Option, sym, refl, ◌∙◌}
-use Rattle.rows.specs.Numbers.{both}
+use Rattle.std.proofs.Common.{◌≡◌, ℕ, ◌<◌, true, Some, None, Option, sym}
 use Rattle.search.specs.Firsts.{first_below}
 use Rattle.search.proofs.Finds.{first_at, first_never}
 use Rattle.std.proofs.lemmas.Bool.{and_parts, both_ways}
-use Rattle.tables.specs.Drafts.{related}
 use Rattle.tables.specs.declared.draft.Draft.{Draft}
-use Rattle.lawful.specs.Tasks.{lefts_of, rights_of, held_by, TasksAreApart, Holder}
+use Rattle.lawful.specs.Tasks.{lefts_of, held_by, Holder}
 use Rattle.lawful.specs.declared.task.Task.{Task}
 use Rattle.lawful.proofs.Bounds.{related_bounded}
 

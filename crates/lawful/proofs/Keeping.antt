@@ -1,26 +1,24 @@
 -- A rule is kept, in words, exactly where no pair breaks it.
-use Rattle.std.proofs.Common.{◌≡◌, ℕ, ◌<◌, ◌≤◌, Bool, true, false, cond, not, ◌&&◌, ◌||◌, eqb, ltb, leb, ◌⊎◌, sym, refl, ap, ◌∙◌, inl, inr, ⊎_elim, arith, lit<}
-use Rattle.rows.specs.Numbers.{both, beyond, agree, bits_of}
+use Rattle.std.proofs.Common.{◌≡◌, ℕ, ◌<◌, ◌≤◌, Bool, true, false, not, ◌&&◌, ◌||◌, ltb, leb, refl, ap, ◌∙◌, ⊎_elim, arith, lit<}
+use Rattle.rows.specs.Numbers.{beyond, agree}
 use Rattle.rows.specs.Rows.{numbers}
 use Rattle.rows.specs.declared.row.Row.{Row}
 use Rattle.rows.proofs.Bits.{bits_below}
 use Rattle.rows.proofs.Numbers.{agree_decides}
-use Rattle.search.specs.Below.{some_below, all_below}
+use Rattle.search.specs.Below.{all_below}
 use Rattle.search.proofs.Somes.{some_at, some_left, some_found, some_never}
-use Rattle.std.proofs.lemmas.Bool.{cases_Bool, both_ways, cases_order, and_parts, and_from, or_parts, or_left, or_cases, leb-true, ltb-true, ltb-false, lt-ltb, eq-eqb, eqb-true, not-true, not-false}
+use Rattle.std.proofs.lemmas.Bool.{both_ways, cases_order, and_parts, and_from, or_parts, or_left, or_cases, leb-true, ltb-true, ltb-false, lt-ltb, eq-eqb, eqb-true, not-true, not-false}
 use Rattle.std.proofs.lemmas.Bool.Decides.{nat_tests}
 use Rattle.tables.specs.Adding.{goes_beyond_lem}
-use Rattle.tables.specs.Drafts.{things, count, declared, related, permission_at, role_pair_at, entry_at}
+use Rattle.tables.specs.Drafts.{things, count, declared, related, role_pair_at, entry_at}
 use Rattle.tables.specs.Limits.{table_limit}
-use Rattle.tables.specs.Sides.{left_of, right_of}
 use Rattle.tables.specs.declared.draft.Draft.{Draft}
-use Rattle.tables.specs.declared.relation.Relation.{Relation}
-use Rattle.tables.specs.declared.relation.Relation.TheVariants.{UserRoles, PermissionAssignment, RolePairAssignment, Bars, StaticSeparation, ProhibitedPairs}
+use Rattle.tables.specs.declared.relation.Relation.TheVariants.{UserRoles, RolePairAssignment, Bars, ProhibitedPairs}
 use Rattle.tables.specs.declared.table.Table.{Table}
-use Rattle.tables.specs.declared.table.Table.TheVariants.{Things, Permissions, RolePairs, Entries}
-use Rattle.tables.specs.declared.table.Thing.TheVariants.{Role, Device, Operation, Condition, EnvironmentRole}
-use Rattle.lawful.specs.Breaking.{breaks, rows_of, columns_of, separated_by, separated, shared, reaches_by, reaches}
-use Rattle.lawful.specs.Keeping.{Declared, In, Keeps}
+use Rattle.tables.specs.declared.table.Table.TheVariants.{Permissions, RolePairs, Entries}
+use Rattle.tables.specs.declared.table.Thing.TheVariants.{Condition, EnvironmentRole}
+use Rattle.lawful.specs.Breaking.{breaks, rows_of, columns_of, separated_by, shared, reaches_by}
+use Rattle.lawful.specs.Keeping.{Declared, Keeps}
 use Rattle.lawful.specs.Tasks.{held_by, rights_of, lefts_of, TasksAreApart}
 use Rattle.lawful.specs.declared.rule.Rule.{Rule}
 use Rattle.lawful.specs.declared.rule.Rule.TheVariants.{WithinLimit, PermissionsDeclared, RolePairsDeclared, EntriesDeclared, PermissionsApart, RolePairsApart, PairsDeclared, NumberInRange, RolesSeparate, TasksApart, NothingProhibited, NothingBarred}

@@ -1,5 +1,5 @@
 -- What a slice pattern `[first, rest @ ..]` says of the list
-use Rattle.std.proofs.Common.{◌≡◌, ℕ, zero, suc, ◌+◌, ◌-◌, ◌<◌, List, [], ◌∷◌, length, get_or, take, drop, replicate, sym, refl, ap, ◌∙◌, ap₂, arith}
+use Rattle.std.proofs.Common.{◌≡◌, ℕ, zero, suc, ◌-◌, ◌<◌, List, [], ◌∷◌, length, get_or, take, drop, replicate, sym, refl, ap, ap₂, arith}
 use Rattle.std.proofs.lemmas.List.{take_all}
 
 pub nil_of : {X : Type 0} (xs : List X) → length xs < 1 → xs ≡ []

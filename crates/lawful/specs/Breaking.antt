@@ -1,5 +1,5 @@
 -- When a pair of numbers breaks a rule, as a test.
-use Rattle.std.specs.Prelude.{ℕ, Bool, true, false, not, ◌&&◌, ◌||◌, Option, ◌==◌, nat_lt}
+use Rattle.std.specs.Prelude.{ℕ, Bool, not, ◌&&◌, ◌||◌, Option, ◌==◌, nat_lt}
 use Rattle.rows.specs.Numbers.{both, agree, two_below}
 use Rattle.rows.specs.Rows.{numbers}
 use Rattle.search.specs.Below.{some_below, all_below}
@@ -11,9 +11,7 @@ use Rattle.tables.specs.Sides.{left_of, right_of}
 use Rattle.tables.specs.declared.draft.Draft.{Draft}
 use Rattle.tables.specs.declared.relation.Relation.{Relation}
 use Rattle.tables.specs.declared.relation.Relation.TheVariants.{UserRoles, PermissionAssignment, RolePairAssignment, Bars, StaticSeparation, ProhibitedPairs}
-use Rattle.tables.specs.declared.table.Table.{Table}
 use Rattle.tables.specs.declared.table.Table.TheVariants.{Things, Permissions, RolePairs, Entries}
-use Rattle.tables.specs.declared.table.Thing.{Thing}
 use Rattle.tables.specs.declared.table.Thing.TheVariants.{Role, Device, Operation, Condition, EnvironmentRole}
 use Rattle.lawful.specs.Tasks.{held_by}
 use Rattle.lawful.specs.declared.rule.Rule.{Rule}

@@ -1,5 +1,5 @@
 -- What a lawful draft keeps, in words: for all numbers, with no search in it. And what the check's answer says.
-use Rattle.std.specs.Prelude.{◌≡◌, ℕ, ◌<◌, ◌≤◌, Bool, true, Ok, Err, Result, ◌≢◌}
+use Rattle.std.specs.Prelude.{◌≡◌, ℕ, ◌<◌, ◌≤◌, true, Ok, Err, Result, ◌≢◌}
 use Rattle.refusals.specs.Codes.{code_of}
 use Rattle.refusals.specs.declared.refusal.Refusal.{Refusal}
 use Rattle.rows.specs.Rows.{numbers}

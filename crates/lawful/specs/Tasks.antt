@@ -1,5 +1,5 @@
 -- Which pairs are in the task of which unit.
-use Rattle.std.specs.Prelude.{◌≡◌, ℕ, Bool, true, ◌&&◌, Some, None, Option, ◌≢◌}
+use Rattle.std.specs.Prelude.{◌≡◌, ℕ, Bool, true, Some, None, Option, ◌≢◌}
 use Rattle.rows.specs.Numbers.{both}
 use Rattle.tables.specs.Drafts.{related}
 use Rattle.tables.specs.declared.draft.Draft.{Draft}

@@ -1,5 +1,5 @@
 -- The place of a name, by names and by their bytes.
-use Rattle.std.proofs.Common.{◌≡◌, ℕ, suc, ◌<◌, Bool, true, false, cond, ltb, List, [], ◌∷◌, ◌++◌, map, length, Some, None, Option, sym, refl, ap, ◌∙◌, arith}
+use Rattle.std.proofs.Common.{◌≡◌, ℕ, suc, ◌<◌, Bool, true, false, cond, List, [], ◌∷◌, ◌++◌, length, Some, None, sym, refl, ap, ◌∙◌, arith}
 use Rattle.index_set.specs.Found.{place_of}
 use Rattle.index_set.specs.Inserting.{insertion_of, placed, grown}
 use Rattle.index_set.specs.declared.insertion.Insertion.{Insertion}

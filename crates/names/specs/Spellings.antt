@@ -1,5 +1,5 @@
 -- What is declared in each table.
-use Rattle.std.specs.Prelude.{◌≡◌, ℕ, ◌<◌, ◌≤◌, Bool, cond, List, [], ◌∷◌, ◌++◌, length, Ok, Err, Result}
+use Rattle.std.specs.Prelude.{◌≡◌, ℕ, ◌<◌, ◌≤◌, cond, List, [], ◌∷◌, ◌++◌, length, Ok, Err, Result}
 use Rattle.index_set.specs.Items.{items_of, Orderly}
 use Rattle.index_set.specs.declared.index_set.IndexSet.{IndexSet}
 use Rattle.kinds.specs.declared.column.NameTable.{NameTable}

@@ -1,5 +1,5 @@
 -- A list of different pairs as a set: what is there, what is absent, and one taken out.
-use Rattle.std.proofs.Common.{◌≡◌, ℕ, zero, suc, ◌+◌, ◌<◌, ◌≤◌, Bool, true, false, not, ◌&&◌, ◌||◌, eqb, ltb, List, [], ◌∷◌, ◌++◌, length, get_or, is_some, Some, None, Option, sym, refl, ap, ◌∙◌, arith, MatchOption}
+use Rattle.std.proofs.Common.{◌≡◌, ℕ, zero, suc, ◌<◌, Bool, true, false, not, List, [], ◌∷◌, length, get_or, is_some, Some, None, Option, sym, refl, arith, MatchOption}
 use mathlib.Core.Path.{fun_ext}
 use Rattle.std.specs.List.{remove, HoldsAt, list_all, AllByRecursion as All}
 use Rattle.index_set.specs.Distinct.{is_distinct}
@@ -9,7 +9,7 @@ use Rattle.std.proofs.lemmas.Bool.Decides.{nat_tests}
 use Rattle.index_set.specs.Found.{Absent, Found}
 use Rattle.stores.specs.Alike.{alike_pair}
 use Rattle.stores.specs.Listed.{listed, all_in_bounds}
-use Rattle.stores.specs.Pairs.{in_bounds, is_pair, without_pair}
+use Rattle.stores.specs.Pairs.{in_bounds, without_pair}
 use Rattle.stores.specs.declared.pair.Pair.{Pair}
 
 all_absent : (ps : List Pair) (p : Pair) → All (λ q. alike_pair q p ≡ false) ps → listed ps p.left p.right ≡ false

@@ -1,12 +1,12 @@
 -- Different pairs in bounds are at most 2,048.
-use Rattle.std.proofs.Common.{◌≡◌, ℕ, zero, suc, ◌+◌, ◌*◌, ◌<◌, ◌≤◌, Bool, true, false, cond, not, ◌&&◌, eqb, ltb, List, [], ◌∷◌, length, filter, sym, refl, ap, ◌∙◌, arith}
+use Rattle.std.proofs.Common.{◌≡◌, ℕ, zero, suc, ◌+◌, ◌*◌, ◌≤◌, Bool, true, not, eqb, ltb, List, [], ◌∷◌, length, filter, sym, refl, ap, ◌∙◌, arith}
 use Rattle.std.specs.List.{list_all}
 use Rattle.index_set.specs.Distinct.{is_distinct}
 use Rattle.std.proofs.lemmas.Bool.{and_parts, and_from, eqb-true, ltb-true, cond_both, not-false}
 use Rattle.std.proofs.lemmas.Bool.Decides.{nat_tests}
 use Rattle.stores.specs.Alike.{alike_pair}
 use Rattle.stores.specs.Listed.{all_in_bounds}
-use Rattle.stores.specs.Pairs.{in_bounds, is_pair}
+use Rattle.stores.specs.Pairs.{in_bounds}
 use Rattle.stores.specs.declared.pair.Pair.{Pair}
 
 -- Items whose numbers are below n and differ are at most n: by leaving out the one whose number is n - 1.

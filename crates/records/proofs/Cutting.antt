@@ -1,5 +1,5 @@
 -- From what is read of a field to the field, or to the byte at fault.
-use Rattle.std.proofs.Common.{◌≡◌, ℕ, ◌+◌, ◌-◌, ◌<◌, ◌≤◌, ◌⊎◌, List, [], ◌∷◌, ◌++◌, length, get_or, take, drop, Result, sym, refl, ap, ◌∙◌, subst, inl, inr, ⊎_elim, arith, length-append, take-append-drop, Bor}
+use Rattle.std.proofs.Common.{◌≡◌, ℕ, ◌+◌, ◌-◌, ◌<◌, ◌≤◌, List, [], ◌∷◌, ◌++◌, length, get_or, take, drop, Result, sym, refl, ap, ◌∙◌, subst, inl, inr, ⊎_elim, arith, length-append, take-append-drop, Bor}
 use native.Mathlib.Nat.{sub-zero}
 use Rattle.std.specs.List.{AllByRecursion as All}
 use Rattle.std.proofs.lemmas.List.{drop_at, drop-drop, take_at, take-take, length-take-le, append_assoc, append-nil, get_or_past}
@@ -13,7 +13,7 @@ use Rattle.records.specs.declared.scan.State.{State}
 use Rattle.records.specs.declared.scan.State.TheVariants.{Bare, Quoted, AfterQuote}
 use Rattle.records.specs.declared.scan.Run.{Run}
 use Rattle.records.specs.Cuts.{cut_of, CutOf}
-use Rattle.records.specs.Grammar.{Plain, Doubled, Writes, Opens, Stray, Amiss, Faulty, begins_at}
+use Rattle.records.specs.Grammar.{Plain, Doubled, Writes, Amiss, Faulty, begins_at}
 use Rattle.records.specs.Grammar.Faulty.{stray, unclosed, amiss}
 use Rattle.records.specs.Steps.{Read, is_quoted, Wrong, Halts, Ran}
 use Rattle.records.specs.Views.{piece}

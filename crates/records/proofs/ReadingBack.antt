@@ -1,10 +1,10 @@
 -- What is written reads back: the reading is built along the writing, and there is no other.
-use Rattle.std.proofs.Common.{◌≡◌, ℕ, ◌+◌, ◌-◌, ◌<◌, ◌≤◌, List, [], ◌∷◌, ◌++◌, map, length, Some, None, Option, sym, refl, ap, ◌∙◌, subst, arith, length-append}
+use Rattle.std.proofs.Common.{◌≡◌, ℕ, ◌-◌, ◌<◌, ◌≤◌, List, [], ◌∷◌, ◌++◌, map, length, Some, Option, sym, refl, ap, ◌∙◌, subst, arith, length-append}
 use Rattle.std.specs.List.{AllByRecursion as All}
 use Rattle.std.proofs.lemmas.List.{append_assoc}
 use Rattle.records.specs.declared.scan.Stop.{Stop}
 use Rattle.records.specs.declared.scan.Stop.TheVariants.{Comma, Break}
-use Rattle.records.specs.Grammar.{Piece, begins_at, Writes, Behind, Opens, Commas, Whole}
+use Rattle.records.specs.Grammar.{Piece, begins_at, Writes, Behind, Opens, Whole}
 use Rattle.records.specs.Grammar.Piece.{bare, quoted}
 use Rattle.records.specs.Readings.{Line, Lines}
 use Rattle.records.specs.Readings.Line.{fields}

@@ -1,9 +1,8 @@
 -- One field more of a record, its last field, and its fault.
-use Rattle.std.proofs.Common.{◌≡◌, ℕ, ◌+◌, ◌-◌, ◌<◌, ◌≤◌, ◌⊎◌, List, [], ◌∷◌, ◌++◌, map, length, take, drop, set, sym, refl, ap, ◌∙◌, subst, inl, inr, ⊎_elim, arith, length-append, length-drop}
+use Rattle.std.proofs.Common.{◌≡◌, ℕ, ◌+◌, ◌-◌, ◌<◌, ◌≤◌, ◌⊎◌, List, [], ◌∷◌, ◌++◌, map, length, take, drop, set, sym, refl, ap, ◌∙◌, subst, inl, inr, arith, length-append, length-drop}
 use Rattle.std.proofs.lemmas.List.{drop-drop, take_rest, take_all, take-append-le, take_more_set, map_push, length_push, length-set}
 use Rattle.records.specs.declared.field.Field.{Field}
 use Rattle.records.specs.declared.scan.Cut.{Cut}
-use Rattle.records.specs.declared.scan.Stop.{Stop}
 use Rattle.records.specs.declared.scan.Stop.TheVariants.{Comma, Break, End}
 use Rattle.records.specs.Grammar.{Piece, Opens, Faulty, Amiss, Commas, Whole, Broken, after_break}
 use Rattle.records.specs.Grammar.Faulty.{stray, unclosed, amiss}

@@ -1,16 +1,13 @@
 -- One byte more of a field.
-use Rattle.std.proofs.Common.{◌≡◌, ℕ, ◌+◌, ◌<◌, ◌≤◌, Bool, true, false, cond, eqb, ◌⊎◌, List, [], ◌∷◌, ◌++◌, length, get_or, take, drop, sym, refl, ap, ◌∙◌, subst, inl, inr, ⊎_elim, add-zero, arith}
-use Rattle.std.specs.List.{AllByRecursion as All}
+use Rattle.std.proofs.Common.{◌≡◌, ℕ, ◌+◌, ◌<◌, ◌≤◌, true, false, ◌⊎◌, List, [], ◌∷◌, ◌++◌, length, get_or, take, drop, sym, refl, ap, ◌∙◌, subst, inr, ⊎_elim, add-zero, arith}
 use Rattle.std.proofs.ByRecursion.{All-push}
 use Rattle.std.proofs.lemmas.List.{take_more, drop_more, drop_all, get_or-drop, append_assoc}
 use Rattle.std.proofs.lemmas.Bool.Decides.{nat_tests}
 use Rattle.records.specs.declared.scan.State.{State}
 use Rattle.records.specs.declared.scan.State.TheVariants.{Bare, Quoted, AfterQuote}
-use Rattle.records.specs.declared.scan.Step.{Step}
 use Rattle.records.specs.declared.scan.Step.TheVariants.{On, Comma, Cr, Fault}
 use Rattle.records.specs.declared.scan.Halt.{Halt}
 use Rattle.records.specs.declared.scan.Halt.TheVariants as by
-use Rattle.records.specs.declared.scan.Run.{Run}
 use Rattle.records.specs.Grammar.{Plain, Doubled}
 use Rattle.records.specs.Grammar.Doubled.{none, other, pair}
 use Rattle.records.specs.Steps.{step_of, Read, is_quoted, Wrong, Halts, Ran}

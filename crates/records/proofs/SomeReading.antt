@@ -1,11 +1,11 @@
 -- Every text has a reading: first how far a field goes, then a field or a fault, then a record, then the whole.
-use Rattle.std.proofs.Common.{◌≡◌, ℕ, zero, suc, ◌+◌, ◌-◌, ◌<◌, ◌≤◌, ◌⊎◌, List, [], ◌∷◌, ◌++◌, length, get_or, drop, sym, refl, ap, ◌∙◌, subst, inl, inr, ⊎_elim, arith, length-append}
+use Rattle.std.proofs.Common.{◌≡◌, ℕ, zero, suc, ◌+◌, ◌-◌, ◌<◌, ◌≤◌, ◌⊎◌, List, [], ◌∷◌, ◌++◌, length, get_or, drop, sym, refl, ap, ◌∙◌, subst, inl, inr, ⊎_elim, arith}
 use Rattle.std.specs.List.{AllByRecursion as All}
-use Rattle.std.proofs.lemmas.List.{append_assoc, append-nil, nil_from_length}
+use Rattle.std.proofs.lemmas.List.{append_assoc}
 use Rattle.std.proofs.lemmas.Bool.{cases_eq}
 use Rattle.records.specs.declared.scan.Stop.{Stop}
 use Rattle.records.specs.declared.scan.Stop.TheVariants.{Comma, Break, End}
-use Rattle.records.specs.Grammar.{Piece, begins_at, Plain, Doubled, Writes, Behind, Opens, Stray, Amiss, Faulty, Commas, Whole, Broken, after_break}
+use Rattle.records.specs.Grammar.{Piece, Plain, Doubled, Behind, Opens, Stray, Amiss, Faulty, Whole, Broken, after_break}
 use Rattle.records.specs.Grammar.Piece.{bare, quoted}
 use Rattle.records.specs.Grammar.Doubled.{none, other, pair}
 use Rattle.records.specs.Grammar.Faulty.{stray, unclosed, amiss}
@@ -14,7 +14,7 @@ use Rattle.records.specs.Readings.Line.{fields, fault}
 use Rattle.records.proofs.OneReading.{lines_one}
 use Rattle.records.proofs.Progress.{whole_less, broken_less}
 use Rattle.records.proofs.Recording.{comma_less}
-use Rattle.records.proofs.Scans.{Outcome, Halted, Scan, quote_first}
+use Rattle.records.proofs.Scans.{Outcome, Halted, Scan}
 use Rattle.records.proofs.Scans.Outcome.{plain, closed, unended}
 
 -- ---- how far a field goes

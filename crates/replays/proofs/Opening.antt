@@ -1,9 +1,8 @@
 -- Runs from an opening on.
 use Rattle.std.proofs.Common.{◌≡◌, ℕ, Bool, true, false, cond, ◌||◌, List, is_some, Ok, Err, vec_items, Result, sym, refl, ap, ◌∙◌, subst, MatchResult}
-use Rattle.house.specs.Views.{in_use, opening, Sound}
+use Rattle.house.specs.Views.{opening, Sound}
 use Rattle.house.proofs.Empties.{checked_lawful}
 use Rattle.lawful.specs.Checking.{is_lawful, checked}
-use Rattle.refusals.specs.declared.refusal.Refusal.{Refusal}
 use Rattle.refusals.specs.declared.refusal.Refusal.TheVariants.{HouseInUse}
 use Rattle.rules.specs.States.{State, opened, nobody}
 use Rattle.rules.specs.declared.call.Call.{Call}

@@ -4,7 +4,7 @@ use mathlib.Core.Path.{fun_ext}
 use Rattle.house.specs.declared.lease.Lease.{Lease}
 use Rattle.rules.specs.declared.call.LeaseNumbers.{LeaseNumbers}
 use Rattle.std.proofs.lemmas.List.{get_or-set_same, get_or-set_other, get_or-replicate}
-use Rattle.std.proofs.lemmas.Bool.{cases_eq, cases_lt, lt-ltb, le-ltb, eq-eqb, ne_eqb, eqb-true, and_parts, and_from, both_ways}
+use Rattle.std.proofs.lemmas.Bool.{cases_eq, cases_lt, lt-ltb, le-ltb, eq-eqb, ne_eqb, eqb-true, and_parts, both_ways}
 use Rattle.replays.specs.Holding.{numbers_in, held_in, none_held, with_held, same_numbers, is_lease}
 
 -- what is held in the place of a unit, and past the last

@@ -1,11 +1,11 @@
 -- No call leads out of the sound states.
-use Rattle.std.proofs.Common.{◌≡◌, ℕ, cond, sym, refl, ap, ◌∙◌}
+use Rattle.std.proofs.Common.{◌≡◌, ℕ, refl, ap, ◌∙◌}
 use Rattle.house.specs.Views.{Sound}
 use Rattle.house.proofs.Rules.{assigned_sound, revoked_sound, sound_along}
 use Rattle.refusals.specs.declared.answer.Answer.{Answer}
 use Rattle.refusals.specs.declared.answer.Answer.TheVariants.{Accepted, Granted, Denied, Refused}
 use Rattle.rows.specs.declared.row.Row.{Row}
-use Rattle.rules.specs.Judging.{judge, effect, commit, after}
+use Rattle.rules.specs.Judging.{judge, commit, after}
 use Rattle.rules.specs.Reaching.{reaches_barred_lem}
 use Rattle.rules.specs.States.{State}
 use Rattle.rules.specs.declared.call.Call.{Call}

@@ -1,8 +1,8 @@
 -- The calls of a change, one after another.
-use Rattle.std.proofs.Common.{◌≡◌, ℕ, true, false, List, [], ◌∷◌, is_ok, Ok, Err, Result, sym, refl, ap, ◌∙◌}
+use Rattle.std.proofs.Common.{◌≡◌, ℕ, true, false, ◌∷◌, is_ok, Ok, Err, Result, sym, refl, ap, ◌∙◌}
 use Rattle.answers.specs.Said.{said}
 use Rattle.refusals.specs.declared.answer.Answer.{Answer}
-use Rattle.refusals.specs.declared.answer.Answer.TheVariants.{Accepted, Refused}
+use Rattle.refusals.specs.declared.answer.Answer.TheVariants.{Accepted}
 use Rattle.refusals.specs.declared.refusal.Refusal.{Refusal}
 use Rattle.rules.specs.Judging.{judge, after}
 use Rattle.rules.specs.States.{State}

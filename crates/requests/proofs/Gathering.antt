@@ -2,7 +2,7 @@
 use Rattle.std.proofs.Common.{◌≡◌, ℕ, zero, suc, ◌<◌, ◌≤◌, Bool, true, false, cond, ◌&&◌, ltb, sym, refl, ap, ◌∙◌, arith}
 use mathlib.Core.Path.{fun_ext}
 use Rattle.rows.specs.Numbers.{no_numbers, in_row, with_number}
-use Rattle.rows.specs.Rows.{numbers, row_with, empty_row}
+use Rattle.rows.specs.Rows.{numbers, row_with}
 use Rattle.rows.specs.declared.row.Row.{Row}
 use Rattle.rows.proofs.Bits.{bits_none}
 use Rattle.rows.proofs.Numbers.{with_there}

@@ -1,5 +1,5 @@
 -- What tells which conditions hold.
-use Rattle.std.proofs.Common.{◌≡◌, ℕ, ◌<◌, ◌≤◌, Bool, true, false, cond, ◌&&◌, eqb, ltb, leb, sym, refl, ap, ◌∙◌, arith}
+use Rattle.std.proofs.Common.{◌≡◌, ℕ, ◌≤◌, Bool, true, false, cond, ◌&&◌, eqb, ltb, sym, refl, ap, ◌∙◌}
 use mathlib.Core.Path.{fun_ext}
 use Rattle.conditions.specs.Bounded.{sensed_bounded, timed_bounded, split_bounded}
 use Rattle.conditions.specs.Clocks.{timed, window, with_window}

@@ -20,7 +20,6 @@ use Rattle.requests.specs.Answering.{or_refused, outcome, answer_to, after_asked
 use Rattle.requests.specs.Calls.{change_call, lease_for, if_accepted, under_lease}
 use Rattle.requests.specs.Laws.{AllAccepted, changed_pairs, with_change, StandsAlone, ChangesStandAlone, LeasesComeBack}
 use Rattle.requests.specs.Sites.{Premises}
-use Rattle.requests.specs.declared.asked.Asked.{Asked}
 use Rattle.requests.specs.declared.asked.Asked.TheVariants.{Start, End, Activate, Drop, CheckAccess, Change, Sense, Clock, Window}
 use Rattle.requests.specs.declared.asked.Change.{Change as Way}
 use Rattle.requests.specs.declared.asked.Change.TheVariants.{Assign, Revoke}

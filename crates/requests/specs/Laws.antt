@@ -8,7 +8,6 @@ use Rattle.refusals.specs.declared.answer.Answer.TheVariants.{Accepted}
 use Rattle.rows.specs.Rows.{numbers}
 use Rattle.rows.specs.declared.row.Row.{Row}
 use Rattle.rules.specs.Spots.{Pairs, with_spot, without_spot}
-use Rattle.rules.specs.States.{State}
 use Rattle.rules.specs.declared.call.Call.{Call}
 use Rattle.rules.specs.declared.call.Event.{Event}
 use Rattle.rules.specs.declared.call.Spot.{Spot}

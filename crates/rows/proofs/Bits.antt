@@ -1,5 +1,5 @@
 -- The bits of a word as a set of numbers.
-use Rattle.std.proofs.Common.{◌≡◌, ℕ, zero, suc, ◌+◌, ◌-◌, ◌*◌, ◌/◌, ◌%◌, ◌^◌, ◌<◌, ◌≤◌, Bool, true, false, cond, not, ◌&&◌, eqb, ltb, ◌⊎◌, sym, refl, ap, ◌∙◌, inl, inr, ⊎_elim, one-mul, arith}
+use Rattle.std.proofs.Common.{◌≡◌, ℕ, zero, suc, ◌+◌, ◌-◌, ◌*◌, ◌/◌, ◌%◌, ◌^◌, ◌<◌, ◌≤◌, Bool, true, false, cond, not, ◌&&◌, eqb, sym, refl, ap, ◌∙◌, ⊎_elim, one-mul, arith}
 use mathlib.Core.Path.{fun_ext}
 use native.Mathlib.Nat.{zero-div, div-eq_of_lt, mul-mod_left}
 use lib.Bits.{bit_and, bit_xor}
@@ -8,7 +8,7 @@ use Rattle.std.proofs.lemmas.Bool.{cases_order, cases_eq, eq-eqb, ne_eqb}
 use Rattle.std.proofs.lemmas.Bool.Decides.{nat_tests}
 use Rattle.search.specs.Below.{some_below}
 use Rattle.search.proofs.Somes.{some_at, some_never}
-use Rattle.rows.specs.Numbers.{bits_of, no_numbers, in_row, both}
+use Rattle.rows.specs.Numbers.{bits_of, no_numbers, both}
 
 -- bit k of the word w
 abbrev bit : ℕ → ℕ → Bool

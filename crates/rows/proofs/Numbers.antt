@@ -1,12 +1,12 @@
 -- Sets of numbers: what putting one in and taking one out leave.
-use Rattle.std.proofs.Common.{◌≡◌, ℕ, ◌<◌, ◌≤◌, Bool, true, false, cond, not, ◌&&◌, ◌||◌, eqb, ltb, Decides, sym, refl, ap, ◌∙◌, ⊎_elim, arith}
+use Rattle.std.proofs.Common.{◌≡◌, ℕ, ◌≤◌, Bool, true, false, not, Decides, sym, refl, ap, ◌∙◌, ⊎_elim, arith}
 use mathlib.Core.Bool.{beq}
 use mathlib.Core.Path.{fun_ext}
 use Rattle.search.specs.Below.{all_below}
 use Rattle.search.proofs.Somes.{all_decides}
 use Rattle.std.proofs.lemmas.Bool.{cases_lt, not-true, not-false}
 use Rattle.std.proofs.lemmas.Bool.Decides.{nat_tests}
-use Rattle.rows.specs.Numbers.{in_row, with_number, without_number, agree, bits_of}
+use Rattle.rows.specs.Numbers.{with_number, without_number, agree, bits_of}
 use Rattle.rows.proofs.Bits.{bits_past}
 
 -- a number out of range is not put in

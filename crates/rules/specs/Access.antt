@@ -1,14 +1,12 @@
 -- Authorization paths.
-use Rattle.std.specs.Prelude.{◌≡◌, ℕ, ◌<◌, Bool, true, false, ◌&&◌, List, length, Some, None, Decides, Option, slice_index_or}
+use Rattle.std.specs.Prelude.{◌≡◌, ℕ, ◌<◌, Bool, true, false, ◌&&◌, length, Some, None, Decides, Option, slice_index_or}
 use Rattle.conditions.specs.Active.{all_hold, active, Activates, no_entry}
 use Rattle.lawful.specs.Keeping.{Declared}
 use Rattle.rows.specs.Rows.{numbers}
 use Rattle.rows.specs.declared.row.Row.{Row}
 use Rattle.search.specs.Below.{some_below}
-use Rattle.search.specs.Firsts.{first_below}
-use Rattle.tables.specs.Drafts.{is_permission_lem, permission_at, role_pair_at, permission_of, entries_of}
+use Rattle.tables.specs.Drafts.{permission_at, role_pair_at, permission_of, entries_of}
 use Rattle.tables.specs.declared.draft.Draft.{Draft}
-use Rattle.tables.specs.declared.parts.Entry.{Entry}
 use Rattle.tables.specs.declared.table.Table.TheVariants.{Things, Permissions}
 use Rattle.tables.specs.declared.table.Thing.TheVariants.{Role}
 use Rattle.rules.specs.Reaching.{role_of}

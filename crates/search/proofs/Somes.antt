@@ -1,5 +1,5 @@
 -- Tests of all numbers below a limit: where they pass, and one number further on.
-use Rattle.std.proofs.Common.{◌≡◌, ℕ, zero, suc, ◌+◌, ◌<◌, Bool, true, false, ◌&&◌, ◌||◌, ◌⊎◌, Decides, sym, refl, ap, ◌∙◌, inl, inr, ⊎_elim, add-one}
+use Rattle.std.proofs.Common.{◌≡◌, ℕ, ◌+◌, ◌<◌, Bool, true, false, ◌||◌, Decides, sym, refl, ⊎_elim, add-one}
 use Rattle.std.proofs.lemmas.Bool.Decides.{Decides-below_or, Decides-below_and}
 use Rattle.std.proofs.lemmas.Bool.{or_from, and_from, cases_Bool, both_ways}
 use Rattle.search.specs.Below.{some_below, all_below}

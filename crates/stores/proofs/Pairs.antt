@@ -1,8 +1,8 @@
 -- Sets of pairs: what putting one in and taking one out leave.
-use Rattle.std.proofs.Common.{◌≡◌, ℕ, ◌<◌, ◌≤◌, Bool, true, false, not, ◌&&◌, ◌||◌, eqb, ltb, ◌⊎◌, sym, refl, ap, ◌∙◌, arith}
+use Rattle.std.proofs.Common.{◌≡◌, ℕ, ◌<◌, ◌≤◌, Bool, true, false, ◌⊎◌, arith}
 use mathlib.Core.Path.{fun_ext}
 use Rattle.std.proofs.lemmas.Bool.Decides.{nat_tests}
-use Rattle.stores.specs.Pairs.{in_bounds, is_pair, with_pair, without_pair}
+use Rattle.stores.specs.Pairs.{in_bounds, with_pair, without_pair}
 
 -- a pair out of bounds is not put in
 pub with_out : (s : ℕ → ℕ → Bool) (l r : ℕ) → in_bounds l r ≡ false → with_pair s l r ≡ s

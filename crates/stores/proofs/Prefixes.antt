@@ -1,11 +1,11 @@
 -- The pairs of a set that come before a place: what a walk over all places has seen there.
-use Rattle.std.proofs.Common.{◌≡◌, ℕ, ◌+◌, ◌<◌, ◌≤◌, Bool, true, false, not, ◌&&◌, ◌||◌, eqb, ltb, sym, refl, ap, ◌∙◌, ⊎_elim, arith}
+use Rattle.std.proofs.Common.{◌≡◌, ℕ, ◌+◌, ◌<◌, Bool, true, false, not, ◌&&◌, sym, refl, ap, ◌∙◌, ⊎_elim, arith}
 use mathlib.Core.Bool.{beq}
 use mathlib.Core.Path.{fun_ext}
 use Rattle.std.proofs.lemmas.Bool.{cases_Bool, true≢false, false≢true}
 use Rattle.std.proofs.lemmas.Bool.Decides.{nat_tests}
 use Rattle.stores.specs.Comparing.{before}
-use Rattle.stores.specs.Pairs.{in_bounds, is_pair, with_pair, no_pairs}
+use Rattle.stores.specs.Pairs.{in_bounds, with_pair, no_pairs}
 
 -- the pairs of s before the place l, r
 unfoldable pub prefix : (ℕ → ℕ → Bool) → ℕ → ℕ → (ℕ → ℕ → Bool)

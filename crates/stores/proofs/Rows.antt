@@ -1,17 +1,16 @@
 -- Rows of bits as a set of pairs.
-use Rattle.std.proofs.Common.{◌≡◌, ℕ, ◌<◌, ◌≤◌, Bool, true, false, cond, not, ◌&&◌, ◌||◌, eqb, ltb, ◌⊎◌, List, length, get_or, set, replicate, sym, refl, ap, ◌∙◌, ⊎_elim, arith}
+use Rattle.std.proofs.Common.{◌≡◌, ℕ, ◌<◌, ◌≤◌, false, cond, not, ◌&&◌, ltb, List, length, get_or, set, replicate, sym, ap, ◌∙◌, ⊎_elim, arith}
 use mathlib.Core.Bool.{and-false}
 use mathlib.Core.Path.{fun_ext}
-use Rattle.std.proofs.lemmas.List.{get_or-set_same, get_or-set_other, get_or-replicate, get_or_past, length-replicate}
+use Rattle.std.proofs.lemmas.List.{get_or-set_same, get_or-set_other, get_or-replicate}
 use Rattle.std.proofs.lemmas.Bool.{cases_eq, cases_lt, lt-ltb, le-ltb}
 use Rattle.std.proofs.lemmas.Bool.Decides.{nat_tests}
 use Rattle.rows.specs.Numbers.{in_row, no_numbers, with_number, without_number}
-use Rattle.stores.specs.Pairs.{in_bounds, is_pair, with_pair, without_pair, no_pairs}
+use Rattle.stores.specs.Pairs.{in_bounds, with_pair, without_pair, no_pairs}
 use Rattle.rows.specs.Rows.{numbers, empty_row, row_with}
 use Rattle.stores.specs.Rows.{row_pairs, rows_with}
 use Rattle.stores.specs.declared.bit_rows.BitRows.{BitRows}
 use Rattle.rows.specs.declared.row.Row.{Row}
-use Rattle.rows.proofs.Bits.{bits_none}
 
 -- the row of a left number in bounds, and out of bounds
 pub row_in : (rows : List Row) (l : ℕ) → l < 64 → row_pairs rows l ≡ numbers (get_or rows l empty_row)

@@ -1,6 +1,6 @@
 -- No pair of a set is out of bounds: the facts that each make of set hands to the trait.
-use Rattle.std.specs.Prelude.{◌≡◌, ℕ, Bool, true, ◌&&◌, ◌||◌, List, [], ◌∷◌, get_or, ◌==◌, nat_lt, slice_index_or}
-use Rattle.std.proofs.Common.{⊎_elim, sym, ◌∙◌, ap₂, arith}
+use Rattle.std.specs.Prelude.{◌≡◌, ℕ, true, ◌&&◌, List, [], ◌∷◌, get_or, ◌==◌, nat_lt, slice_index_or}
+use Rattle.std.proofs.Common.{⊎_elim, sym, ◌∙◌, ap₂}
 use Rattle.std.proofs.lemmas.Bool.{and_parts, and_from, or_cases, eqb-true, false≢true}
 use Rattle.stores.specs.Listed.{listed}
 use Rattle.rows.specs.Numbers.{bits_of, in_row}

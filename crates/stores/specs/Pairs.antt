@@ -1,5 +1,5 @@
 -- Sets of pairs, as functions of the left and the right number.
-use Rattle.std.specs.Prelude.{ℕ, Bool, true, false, not, ◌&&◌, ◌||◌, ◌==◌, nat_lt}
+use Rattle.std.specs.Prelude.{ℕ, Bool, false, not, ◌&&◌, ◌||◌, ◌==◌, nat_lt}
 
 -- a pair that a set may hold: its left number below 64, its right number below 32
 abbrev pub in_bounds : ℕ → ℕ → Bool

@@ -1,5 +1,5 @@
 -- What rows of bits stand for.
-use Rattle.std.specs.Prelude.{ℕ, Bool, cond, ◌&&◌, List, set, nat_lt, slice_index_or, slice_set}
+use Rattle.std.specs.Prelude.{ℕ, Bool, cond, ◌&&◌, List, nat_lt, slice_index_or, slice_set}
 use Rattle.rows.specs.Rows.{numbers, empty_row, row_with}
 use Rattle.rows.specs.declared.row.Row.{Row}
 use Rattle.stores.specs.declared.bit_rows.BitRows.{BitRows}

@@ -7,7 +7,7 @@ use Rattle.stores.specs.Pairs.{no_pairs, with_pair}
 use Rattle.stores.specs.Rows.{pairs_in, rows_with}
 use Rattle.stores.specs.declared.bit_rows.BitRows.{BitRows}
 use Rattle.tables.specs.Adding.{with_pair_in, with_related}
-use Rattle.tables.specs.Drafts.{things, related}
+use Rattle.tables.specs.Drafts.{related}
 use Rattle.tables.specs.Indices.{relation_index}
 use Rattle.tables.specs.declared.draft.Draft.{Draft}
 use Rattle.tables.specs.declared.relation.Relation.{Relation}

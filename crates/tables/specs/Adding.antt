@@ -1,5 +1,5 @@
 -- What adding to a draft answers, and the draft after it.
-use Rattle.std.specs.Prelude.{ℕ, ◌+◌, Bool, cond, not, ◌&&◌, ◌||◌, List, [], set, is_some, Ok, Err, Result, ◌==◌, nat_le, slice_index_or, slice_set}
+use Rattle.std.specs.Prelude.{ℕ, ◌+◌, Bool, cond, not, ◌&&◌, ◌||◌, List, [], is_some, Ok, Err, Result, ◌==◌, nat_le, slice_index_or, slice_set}
 use Rattle.refusals.specs.declared.refusal.Refusal.{Refusal}
 use Rattle.refusals.specs.declared.refusal.Refusal.TheVariants.{AlreadyDeclared, NotDeclared, TableFull}
 use Rattle.rows.specs.Numbers.{beyond}

@@ -3,7 +3,6 @@ use Rattle.std.specs.Prelude.{◌≡◌, ℕ, Bool, ◌&&◌, List, [], take, Op
 use Rattle.search.specs.Firsts.{first_below}
 use Rattle.stores.specs.Pairs.{no_pairs}
 use Rattle.stores.specs.Rows.{pairs_in}
-use Rattle.stores.specs.declared.bit_rows.BitRows.{BitRows}
 use Rattle.tables.specs.Indices.{thing_index, relation_index}
 use Rattle.tables.specs.Limits.{table_limit}
 use Rattle.tables.specs.declared.draft.Draft.{Draft}

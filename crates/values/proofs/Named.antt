@@ -1,5 +1,5 @@
 -- Every name is well spelt.
-use Rattle.std.proofs.Common.{◌≡◌, ◌<◌, ◌≤◌, true, length, ap, ◌∙◌, arith, length-take}
+use Rattle.std.proofs.Common.{◌≡◌, ◌<◌, ◌≤◌, true, length, arith, length-take}
 use Rattle.values.specs.Names.{spells_name, spelling}
 use Rattle.values.specs.declared.name.Name.{Name}
 use Rattle.values.proofs.Spellings.{a_name}

@@ -1,5 +1,5 @@
 -- That two lists of bytes are the same: an equivalence.
-use Rattle.std.specs.Prelude.{◌≡◌, ℕ, Bool, true, List, refl}
+use Rattle.std.specs.Prelude.{◌≡◌, ℕ, true, List, refl}
 use Rattle.std.proofs.Common.{sym, ◌∙◌}
 use Rattle.std.specs.Str.{bytes_eq}
 use Rattle.std.proofs.lemmas.Slice.Eq.{bytes_eq-Decides}

@@ -1,4 +1,4 @@
-use Rattle.std.proofs.Common.{◌≡◌, take, arith, take_all, rules}
+use Rattle.std.proofs.Common.{arith, take_all}
 use Rattle.compare.proofs.Steps.{agreed_none, agreed_more}
 use Rattle.compare.proofs.comparison.compare.Goals as goal
 

@@ -1,4 +1,4 @@
-use Rattle.std.proofs.Common.{◌≡◌, sym, ap, ◌∙◌, rules}
+use Rattle.std.proofs.Common.{◌≡◌, rules}
 use Rattle.search.specs.Firsts.{first_below}
 use Rattle.lawful.specs.Tasks.{held_by}
 use Rattle.lawful.proofs.Holding.{holder_is}

@@ -1,4 +1,4 @@
-use Rattle.std.proofs.Common.{◌≡◌, length, Some, sym, ap, ◌∙◌, subst, arith}
+use Rattle.std.proofs.Common.{length, Some, ap, ◌∙◌, subst, arith}
 use Rattle.records.specs.Views.{Gives}
 use Rattle.records.proofs.Progress.{line_given, one_line_more, all_lines}
 use Rattle.records.proofs.cursor.count_lines.Goals as goal

@@ -1,4 +1,4 @@
-use Rattle.std.proofs.Common.{◌≡◌, [], ◌∷◌, ◌++◌, length, refl, inl, inr, arith, rules}
+use Rattle.std.proofs.Common.{[], ◌∷◌, ◌++◌, refl, inl, inr, arith}
 use Rattle.records.specs.Views.{piece}
 use Rattle.records.proofs.Recording.{Stored, keeps_more, room_kept, one_more, last_one, fault_within, broken}
 use Rattle.records.proofs.read.read_record.Goals as goal

@@ -1,4 +1,4 @@
-use Rattle.std.proofs.Common.{◌≡◌, ◌-◌, ◌<◌, List, length, get_or, take, drop, refl, arith, rules}
+use Rattle.std.proofs.Common.{refl, rules}
 use Rattle.records.specs.Grammar.Doubled.{none}
 use Rattle.records.proofs.Cutting.{no_quote, quote_first, closed_some, quoted_field, unclosed_field, bare_field}
 use Rattle.records.proofs.scan.front_field.Goals as goal

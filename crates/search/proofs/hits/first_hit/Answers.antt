@@ -1,4 +1,4 @@
-use Rattle.std.proofs.Common.{◌≡◌, Some, None, sym, ap, ◌∙◌, arith, rules}
+use Rattle.std.proofs.Common.{◌≡◌, sym, ap, ◌∙◌, arith, rules}
 use Rattle.search.specs.Firsts.{first_pair}
 use Rattle.search.proofs.Finds.{first_none, first_more, pair_none, pair_more, pair_found, pair_words}
 use Rattle.search.proofs.hits.first_hit.Goals as goal

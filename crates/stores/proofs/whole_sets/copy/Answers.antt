@@ -1,4 +1,4 @@
-use Rattle.std.proofs.Common.{◌≡◌, sym, ap, ◌∙◌, arith}
+use Rattle.std.proofs.Common.{sym, ap, ◌∙◌, arith}
 use Rattle.stores.proofs.Prefixes.{prefix_none, copied_in, copied_out, copied_row, copied_all}
 use Rattle.stores.proofs.whole_sets.copy.Goals as goal
 use Rattle.stores.proofs.whole_sets.copy.Goals.{then-contains, else-contains}

@@ -1,4 +1,4 @@
-use Rattle.std.proofs.Common.{◌≡◌, sym, ◌∙◌, arith}
+use Rattle.std.proofs.Common.{sym, ◌∙◌, arith}
 use Rattle.stores.proofs.Prefixes.{agree_none, agree_before, agree_more, agree_row, agree_all, told_same, told_apart}
 use Rattle.stores.proofs.whole_sets.first_difference.Goals as goal
 

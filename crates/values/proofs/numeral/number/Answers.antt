@@ -1,5 +1,4 @@
 use Rattle.std.proofs.Common.{get_or, sym, refl, ◌∙◌, inl, inr, arith, rules}
-use Rattle.values.specs.Numbers.{digits, value_after}
 use Rattle.values.proofs.Numerals.{bound_more, is_digit, value_step, digits_step, none_at, some_at}
 use Rattle.values.proofs.numeral.number.Goals as goal
 use Rattle.values.proofs.numeral.number.Goals.{in_default, in_default-2}

@@ -1,4 +1,4 @@
-use Rattle.std.proofs.Common.{◌≡◌, true, length, sym, rules}
+use Rattle.std.proofs.Common.{sym, rules}
 use Rattle.index_set.specs.Found.{Absent}
 use Rattle.index_set.specs.Items.{items_of}
 use Rattle.index_set.proofs.Places.{place_absent, place_found, found_in}

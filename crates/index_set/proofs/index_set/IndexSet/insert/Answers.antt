@@ -4,7 +4,7 @@ use Rattle.std.proofs.lemmas.List.{take_more_set, length-set}
 use Rattle.index_set.specs.Distinct.{is_distinct}
 use Rattle.index_set.specs.Items.{items_of}
 use Rattle.index_set.proofs.Apart.{apart_push}
-use Rattle.index_set.proofs.Inserts.{inserts, is_full_lem}
+use Rattle.index_set.proofs.Inserts.{inserts}
 use Rattle.index_set.proofs.Stored.{items_length}
 use Rattle.index_set.proofs.index_set.IndexSet.insert.Goals as goal
 

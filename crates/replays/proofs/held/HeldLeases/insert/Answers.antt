@@ -1,4 +1,4 @@
-use Rattle.std.proofs.Common.{◌≡◌, get_or, Some, None, sym, ap, ◌∙◌, rules}
+use Rattle.std.proofs.Common.{◌≡◌, get_or, Some, None, sym, rules}
 use Rattle.replays.proofs.Places.{held_at, held_with}
 use Rattle.replays.proofs.held.HeldLeases.insert.Goals as goal
 

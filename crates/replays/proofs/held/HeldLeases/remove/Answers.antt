@@ -1,4 +1,4 @@
-use Rattle.std.proofs.Common.{◌≡◌, true, get_or, None, sym, ap, ◌∙◌, rules}
+use Rattle.std.proofs.Common.{◌≡◌, true, get_or, None, sym, ◌∙◌, rules}
 use Rattle.std.proofs.lemmas.Bool.{cond-true}
 use Rattle.replays.specs.Holding.{held_of, is_lease}
 use Rattle.replays.proofs.Places.{held_at, held_with, held_below, held_is}

@@ -13,8 +13,10 @@ invariant_of-self g c =
     let h = held_of c.args.self.now.held in
     let e = c.in-Ok.ensures in
     let k = c.in-Ok.lease.numbers in
-    let b : k.unit < 16 = rw (ap (λ (x : LeaseNumbers). x.unit) e.lease) (unit_below d s c.args.unit c.args.user e.answer) in record { tied = tie_acquired d (draft_of c.acquire.new.self) s (state_of g.S.PairSet.pairs g.T.PairSet.pairs c.acquire.new.self) c.args.unit c.args.user k h (held_of c.insert.new.self)
-          e.answer e.same e.after e.lease (c.insert.ensures.after b) c.args.self.now.tied }
+    let b : k.unit < 16 = rw (ap (λ (x : LeaseNumbers). x.unit) e.lease) (unit_below d s c.args.unit c.args.user e.answer) in record {
+      tied = tie_acquired d (draft_of c.acquire.new.self) s (state_of g.S.PairSet.pairs g.T.PairSet.pairs c.acquire.new.self) c.args.unit c.args.user k h (held_of c.insert.new.self)
+          e.answer e.same e.after e.lease (c.insert.ensures.after b) c.args.self.now.tied;
+    }
 
 -- no lease of the unit was held before
 pub invariant_of-self-in-Some : goal.invariant_of-self-in-Some

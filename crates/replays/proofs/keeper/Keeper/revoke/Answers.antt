@@ -1,8 +1,6 @@
-use Rattle.std.proofs.Common.{◌≡◌, sym, refl, ap, ◌∙◌}
+use Rattle.std.proofs.Common.{sym, refl, ◌∙◌}
 use Rattle.rules.specs.Judging.{judge, after}
 use Rattle.rules.specs.declared.call.Call.TheVariants.{Revoke}
-use Rattle.rules.specs.declared.call.LeaseNumbers.{LeaseNumbers}
-use Rattle.rules.specs.declared.call.Spot.{Spot}
 use Rattle.replays.specs.Holding.{held_of}
 use Rattle.replays.specs.Keeping.{draft_in, state_in}
 use Rattle.replays.proofs.Tying.{stale, unchanged}

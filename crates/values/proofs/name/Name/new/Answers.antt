@@ -1,4 +1,4 @@
-use Rattle.std.proofs.Common.{length, sym, ap, ◌∙◌, arith, length-set}
+use Rattle.std.proofs.Common.{sym, ap, ◌∙◌, arith, length-set}
 use Rattle.values.specs.Letters.{letters}
 use Rattle.values.proofs.Spellings.{letters_more, not_letters, all_letters, copied_more, blank_more, copied_all, no_name, a_name}
 use Rattle.values.proofs.name.Name.new.Goals as goal
