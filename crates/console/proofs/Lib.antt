@@ -4,3 +4,4 @@ mod Fitting
 mod Replies
 mod Reaching
 mod Progress
+mod Tables

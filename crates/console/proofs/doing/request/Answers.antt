@@ -19,3 +19,8 @@ returns-in-None g c =
       after = λ _. a.after ∙ ap (λ k. opening_box b (numbered b.draft k)) n ∙ ap (request_box b vs) e;
       sound = a.sound;
     }
+
+pub returns-in-Some-clause-after : goal.returns-in-Some-clause-after
+returns-in-Some-clause-after g c = λ s.
+    let b = box_at g.S.PairSet.pairs g.T.PairSet.pairs c.args.sheet.now c.args.site.now in
+    ap (λ x. record { names = b.names; draft = b.draft; site = x }) (c.ask.ensures.after s) ∙ ap (request_box b (values c.args.fields.now)) c.in-Some.ensures

@@ -18,3 +18,6 @@ returns-in-Ok g c =
       after = λ s. t.after s ∙ ap (λ m. record_box b r.start r.count (values (take m kept))) n ∙ ap (given_box b kept) e;
       sound = t.sound;
     }
+
+pub returns-in-Err-clause-after : goal.returns-in-Err-clause-after
+returns-in-Err-clause-after g c = λ s. ap (given_box (box_of g.S.PairSet.pairs g.T.PairSet.pairs c.args.self.now) c.args.fields.now) (sym c.in-Err.is)

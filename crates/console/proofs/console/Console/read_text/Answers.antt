@@ -7,8 +7,8 @@ use Rattle.console.proofs.console.Console.read_text.Goals as goal
 pub lines-init : goal.lines-init
 lines-init g c =
     let a = c.in-Ok.ensures in
-    let m = c.in-Ok-with_capacity.ensures.made in
-    (a.1, refl, omega (arith, a.2), omega (arith, m.1.1), omega (arith, m.1.0), (λ s. s), (λ s. none_yet _ _ _ _ a.2 m.0))
+    let m = c.in-Ok-with_capacity.ensures in
+    (a.1, refl, omega (arith, a.2), omega (arith, m.capacity), omega (arith, m.len), (λ s. s), (λ s. none_yet _ _ _ _ a.2 m.items))
 
 pub lines-preserved : goal.lines-preserved
 lines-preserved g c =

@@ -1,0 +1,25 @@
+-- A record that is no request answers nothing, and changes names and draft alone.
+use Rattle.std.proofs.Common.{◌≡◌, ℕ, List, None, refl}
+use Rattle.drafting.specs.Effects.{names_after, draft_after}
+use Rattle.kinds.specs.declared.kind.Kind.{Kind}
+use Rattle.kinds.specs.declared.kind.Kind.TheVariants.{Declare, Permission, RolePair, Entry, Relate, Ask}
+use Rattle.kinds.specs.declared.kind.Request.{Request}
+use Rattle.console.specs.Boxes.{Box}
+use Rattle.console.specs.Recording.{done_reply, done_box}
+
+module _ (b : Box) (vs : List (List ℕ)) where
+  pub table_reply : (k : Kind) → ((q : Request) → k ≡ Ask q → ⊥) → None ≡ done_reply b k vs
+  table_reply (Declare t) n = refl
+  table_reply Permission n = refl
+  table_reply RolePair n = refl
+  table_reply Entry n = refl
+  table_reply (Relate r) n = refl
+  table_reply (Ask q) n = absurd (n q refl)
+
+  pub table_box : (k : Kind) → ((q : Request) → k ≡ Ask q → ⊥) → record { names = names_after b.names k vs; draft = draft_after b.names b.draft k vs; site = b.site } ≡ done_box b k vs
+  table_box (Declare t) n = refl
+  table_box Permission n = refl
+  table_box RolePair n = refl
+  table_box Entry n = refl
+  table_box (Relate r) n = refl
+  table_box (Ask q) n = absurd (n q refl)
