@@ -1,5 +1,5 @@
 -- The record name, which is the first value.
-use Rattle.std.proofs.Common.{◌≡◌, ℕ, ◌<◌, ◌≤◌, List, [], ◌∷◌, length, get_or, refl, arith}
+use Rattle.std.proofs.Common.{◌≡◌, ◌<◌, ◌≤◌, List, [], ◌∷◌, length, get_or, refl, arith}
 use Rattle.forms.specs.Fields.{values}
 use Rattle.records.specs.Views.{value_of}
 use Rattle.records.specs.declared.field.Field.{Field}

@@ -1,5 +1,5 @@
 -- A record that no reason refuses fits its kind: all its fields are kept.
-use Rattle.std.proofs.Common.{◌≡◌, ℕ, ◌≤◌, min, Bool, true, false, cond, not, List, length, sym, refl, ap, ◌∙◌, arith}
+use Rattle.std.proofs.Common.{◌≡◌, ℕ, ◌≤◌, min, Bool, true, false, cond, not, List, length, sym, refl, ◌∙◌, arith}
 use Rattle.drafting.specs.Fit.{Fit}
 use Rattle.drafting.proofs.Fits.{fits, few}
 use Rattle.forms.specs.Fields.{values}

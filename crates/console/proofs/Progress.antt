@@ -2,7 +2,6 @@
 use Rattle.std.proofs.Common.{◌≡◌, ℕ, ◌+◌, ◌-◌, ◌<◌, ◌≤◌, Bool, true, cond, List, [], ◌∷◌, ◌++◌, length, take, drop, Some, None, Ok, Option, sym, refl, ap, ◌∙◌, subst, append_assoc, append-nil, arith, length-drop, length-take, take_all}
 use lib.Seq.{take-append-le}
 use Rattle.records.specs.Readings.{Line, Lines, Reading}
-use Rattle.records.specs.Views.{Goes}
 use Rattle.std.proofs.lemmas.List.{drop_all}
 use Rattle.std.proofs.lemmas.Bool.{cond-true}
 use Rattle.console.specs.Boxes.{Box}

@@ -8,7 +8,7 @@ use Rattle.records.specs.Readings.{Line}
 use Rattle.records.specs.Readings.Line.{fields, fault}
 use Rattle.refusals.specs.declared.answer.Answer.{Answer}
 use Rattle.refusals.specs.declared.answer.Answer.TheVariants.{Accepted, Granted, Denied, Refused}
-use Rattle.requests.specs.Answering.{after_asked, after_open}
+use Rattle.requests.specs.Answering.{after_asked}
 use Rattle.requests.specs.Calls.{calls_for}
 use Rattle.requests.specs.Sites.{Premises}
 use Rattle.requests.specs.declared.asked.Asked.{Asked}
@@ -23,7 +23,7 @@ use Rattle.tables.specs.declared.draft.Draft.{Draft}
 use Rattle.kinds.specs.Words.{kind_of_lem}
 use Rattle.console.specs.Boxes.{Box}
 use Rattle.console.specs.Calls.{Reached, request_calls, done_calls, calls_unless, kind_calls, line_calls, text_calls}
-use Rattle.console.specs.Recording.{judged, offered, opening_box, request_box, done_box, box_unless, kind_box}
+use Rattle.console.specs.Recording.{judged, offered, request_box, done_box, box_unless, kind_box}
 use Rattle.console.specs.Requests.{asked_of}
 use Rattle.console.specs.Texts.{kept_values, line_box, text_box}
 

@@ -1,11 +1,10 @@
 -- Answers that are not accepted, and openings that are refused.
-use Rattle.std.proofs.Common.{◌≡◌, Bool, false, cond, is_ok, Ok, Err, Result, sym, refl, ap}
+use Rattle.std.proofs.Common.{◌≡◌, false, cond, is_ok, Ok, Err, Result, sym, refl, ap}
 use Rattle.answers.specs.Said.{said}
 use Rattle.house.specs.Views.{opening}
 use Rattle.refusals.specs.declared.answer.Answer.{Answer}
 use Rattle.refusals.specs.declared.answer.Answer.TheVariants.{Accepted}
 use Rattle.refusals.specs.declared.refusal.Refusal.{Refusal}
-use Rattle.requests.specs.Sites.{Premises}
 use Rattle.tables.specs.declared.draft.Draft.{Draft}
 use Rattle.console.specs.Boxes.{Box}
 use Rattle.console.specs.Recording.{opening_box}

@@ -1,5 +1,5 @@
 -- Replies: how long they are, and to which line of the text they answer.
-use Rattle.std.proofs.Common.{◌≡◌, ℕ, ◌+◌, ◌<◌, ◌≤◌, min, List, [], ◌∷◌, ◌++◌, map, length, take, drop, Some, None, Ok, Err, codes, decimal, Option, Result, sym, refl, ap, ◌∙◌, subst, ⊎_elim, arith, lit≤, length-append, take_all}
+use Rattle.std.proofs.Common.{◌≡◌, ℕ, ◌<◌, ◌≤◌, min, List, [], ◌∷◌, ◌++◌, map, length, take, drop, Some, Ok, Err, Option, Result, sym, refl, ap, ◌∙◌, ⊎_elim, arith, lit≤, length-append, take_all}
 use Rattle.forms.specs.Fields.{values}
 use Rattle.records.specs.Grammar.{Piece}
 use Rattle.records.specs.Readings.{Line}
@@ -14,7 +14,7 @@ use Rattle.refusals.specs.declared.answer.Answer.TheVariants.{Accepted, Granted,
 use Rattle.refusals.specs.declared.refusal.Refusal.{Refusal}
 use Rattle.std.proofs.lemmas.Fmt.{length-decimal-le}
 use Rattle.std.proofs.lemmas.Bool.{cases_lt}
-use Rattle.values.specs.Lines.{line_of, line_break}
+use Rattle.values.specs.Lines.{line_of}
 use Rattle.console.specs.Boxes.{Box}
 use Rattle.console.specs.Given.{given_reply, given_box, values_of}
 use Rattle.console.specs.Recording.{record_reply, record_box}

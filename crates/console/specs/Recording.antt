@@ -1,5 +1,5 @@
 -- What one record is answered, and what it does to the box.
-use Rattle.std.specs.Prelude.{ℕ, Bool, cond, List, [], is_ok, Some, None, Option, slice_index_or}
+use Rattle.std.specs.Prelude.{ℕ, cond, List, [], is_ok, Some, None, Option, slice_index_or}
 use Rattle.answers.specs.Said.{said}
 use Rattle.drafting.specs.Effects.{names_after, draft_after}
 use Rattle.house.specs.Views.{opening}

@@ -1,4 +1,3 @@
-use Rattle.std.proofs.Common.{refl, ◌∙◌}
 use Rattle.house.specs.Views.{opening}
 use Rattle.console.specs.Boxes.{box_at}
 use Rattle.console.specs.Recording.{numbered}

@@ -1,7 +1,4 @@
-use Rattle.std.proofs.Common.{◌≡◌, ◌≤◌, ◌++◌, length, drop, sym, ap, ◌∙◌}
-use Rattle.values.specs.Lines.{line_of}
-use Rattle.console.specs.Texts.{reply_bytes}
-use Rattle.console.proofs.Replies.{short, replied_bytes}
+use Rattle.console.proofs.Replies.{replied_bytes}
 use Rattle.console.proofs.reading.write_reply.Goals as goal
 
 pub returns-in-Ok : goal.returns-in-Ok

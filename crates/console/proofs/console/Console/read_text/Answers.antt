@@ -1,4 +1,4 @@
-use Rattle.std.proofs.Common.{◌≡◌, ◌+◌, ◌-◌, ◌*◌, ◌≤◌, true, ◌++◌, length, take, is_ok, vec_items, vec_len, sym, refl, ap, ◌∙◌, arith, rules}
+use Rattle.std.proofs.Common.{◌≡◌, ◌-◌, ◌≤◌, true, length, take, is_ok, vec_items, vec_len, refl, ap, ◌∙◌, arith, rules}
 use Rattle.console.specs.Boxes.{box_of}
 use Rattle.console.proofs.Progress.{none_yet, line_more, whole, replied, ended, went_on, at_end, appended, grown}
 use Rattle.console.proofs.Reaching.{law_of_text}
