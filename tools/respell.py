@@ -21,6 +21,7 @@ SPECIAL = {
     "Tasks-apart": "TasksAreApart",
     "bit-and": "bit_of_and",
     "bit-xor": "bit_of_xor",
+    "Read_from": "ReadFrom",
 }
 WITH_SUFFIX = """kind-of every-text-has-one-reading every-written-text-reads-back changes-stand-alone checks-see-both
 leases-come-back cases-hold one-column-tells value-at set-from left-place right-place permission-place first-broken
@@ -28,8 +29,8 @@ is-full permission-number is-permission goes-beyond reaches-barred read-on""".sp
 SPECIAL.update({name: name.replace("-", "_") + "_lem" for name in WITH_SUFFIX})
 
 
-# Variables of lemmas, which no line declares.
-VARIABLES = {"as-cut", "as-spot", "as-told", "as-way", "no-lf", "not-comma", "not-cr", "not-lf", "not-quote"}
+# Variables of lemmas, which no line declares, and a name that the toolchain's script left half turned.
+VARIABLES = {"Read_from", "as-cut", "as-spot", "as-told", "as-way", "no-lf", "not-comma", "not-cr", "not-lf", "not-quote"}
 
 
 def camel(name):

@@ -28,9 +28,9 @@ abbrev pub Keeps : ℕ → List Field → List Piece → Type 0
 Keeps count kept fs = (count ≡ length fs) × (map piece (take count kept) ≡ take 40 fs)
 
 -- what is read of a text at the place from: a record, or the place of the byte at fault
-abbrev pub Read_from : List ℕ → ℕ → List Field → Result Record ℕ → Type 0
-Read_from text from kept (Ok r) = (r.start ≡ from) × (r.next ≤ length text) × ((fs : List Piece) × Keeps r.count kept fs × Whole (length text) (drop from text) fs (drop r.next text))
-Read_from text from kept (Err bad) = (bad ≤ length text) × Broken (length text) (drop from text) bad (after_break (drop bad text))
+abbrev pub ReadFrom : List ℕ → ℕ → List Field → Result Record ℕ → Type 0
+ReadFrom text from kept (Ok r) = (r.start ≡ from) × (r.next ≤ length text) × ((fs : List Piece) × Keeps r.count kept fs × Whole (length text) (drop from text) fs (drop r.next text))
+ReadFrom text from kept (Err bad) = (bad ≤ length text) × Broken (length text) (drop from text) bad (after_break (drop bad text))
 
 -- a cursor at the beginning of the text, or refusal 3 where it has more than 32,768 bytes
 abbrev pub Admits : List ℕ → Result Records Refusal → Type 0

@@ -1,7 +1,7 @@
 // One record of a text, and where reading goes on behind a fault.
 ghost use Rattle.std.specs.Prelude.{◌≡◌, ◌≤◌, length, drop};
 ghost use Rattle.records.specs.Grammar.{after_break};
-ghost use Rattle.records.specs.Views.{Read_from};
+ghost use Rattle.records.specs.Views.{ReadFrom};
 
 use crate::field::Field;
 use crate::record::{KEPT_FIELDS, Record};
@@ -31,7 +31,7 @@ pub fn read_record<'a>(
 ) -> Result<Record, usize>
     requires { from ≤ length text.now }
     ensures room { length fields.new ≡ 40 }
-    ensures reads { Read_from text.now from fields.new result }
+    ensures reads { ReadFrom text.now from fields.new result }
 {
     let mut count = 0;
     let mut at = from;
