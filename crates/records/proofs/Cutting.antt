@@ -1,7 +1,7 @@
 -- From what is read of a field to the field, or to the byte at fault.
 use Rattle.std.proofs.Common.{◌≡◌, ℕ, ◌+◌, ◌-◌, ◌<◌, ◌≤◌, List, [], ◌∷◌, ◌++◌, length, get_or, take, drop, Result, sym, refl, ap, ◌∙◌, subst, inl, inr, ⊎_elim, arith, length-append, take-append-drop, Bor}
 use native.Mathlib.Nat.{sub-zero}
-use Rattle.std.specs.List.{AllByRecursion as All}
+use Rattle.std.specs.List.{AllByRecursion}
 use Rattle.std.proofs.lemmas.List.{drop_at, drop-drop, take_at, take-take, length-take-le, append_assoc, append-nil, get_or_past}
 use Rattle.std.proofs.lemmas.Slice.{first_rest}
 use Rattle.records.specs.declared.field.Field.{Field}
@@ -46,7 +46,7 @@ module _ (at : ℕ) (s w rest : List ℕ) (f : Field) (st : State) (n : ℕ) (cu
 
 -- ---- a bare field
 
-bare_wrong : (s w rest : List ℕ) (n b : ℕ) (t : List ℕ) → s ≡ w ++ rest → length w ≡ n → All Plain w → (get_or s 0 0 ≡ 34 → ⊥) → rest ≡ b ∷ t → Wrong Bare b t → Faulty s n
+bare_wrong : (s w rest : List ℕ) (n b : ℕ) (t : List ℕ) → s ≡ w ++ rest → length w ≡ n → AllByRecursion Plain w → (get_or s 0 0 ≡ 34 → ⊥) → rest ≡ b ∷ t → Wrong Bare b t → Faulty s n
 bare_wrong s w rest n b t cut long plain bare is bad =
     stray w (b ∷ t) (cut ∙ ap (λ l. w ++ l) is) plain (⊎_elim (λ e. inl (e, some w cut e)) inr bad) (sym long)
   where
@@ -63,11 +63,11 @@ pub bare_field : (at : ℕ) (s : List ℕ) (r : Run) (part : Bor (List ℕ)) (re
 bare_field at s r part res bare ran e as_cut =
     let is : part.now ≡ take r.at s = as_cut ∙ ap (λ k. take k s) (sub-zero r.at) in
     let st = in_bare r.state ran.kind in
-    let plain : All Plain (take r.at s) = subst (λ x. Read x (take r.at s)) st ran.read in
+    let plain : AllByRecursion Plain (take r.at s) = subst (λ x. Read x (take r.at s)) st ran.read in
     let cut : s ≡ take r.at s ++ drop r.at s = sym (take-append-drop r.at s) in
     let long = length-take-le r.at s ran.within in
     subst (CutOf at s) (sym e)
-    (halted at s (take r.at s) (drop r.at s) (field.Bare part at) Bare r.at cut long (sym is, subst (All Plain) (sym is) plain) refl r.halt
+    (halted at s (take r.at s) (drop r.at s) (field.Bare part at) Bare r.at cut long (sym is, subst (AllByRecursion Plain) (sym is) plain) refl r.halt
     (subst (λ x. Halts r.halt x (drop r.at s)) st ran.halts)
     (λ b t behind bad. bare_wrong s (take r.at s) (drop r.at s) r.at b t cut long plain bare behind bad))
 

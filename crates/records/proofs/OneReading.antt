@@ -1,6 +1,6 @@
 -- A text has no two readings: first of a field, then of a record, then of the whole.
 use Rattle.std.proofs.Common.{◌≡◌, ℕ, ◌+◌, ◌<◌, ◌⊎◌, List, [], ◌∷◌, ◌++◌, length, get_or, drop, sym, refl, ap, ◌∙◌, subst, inl, inr, ⊎_elim, arith}
-use Rattle.std.specs.List.{AllByRecursion as All}
+use Rattle.std.specs.List.{AllByRecursion}
 use Rattle.std.proofs.lemmas.List.{append_assoc}
 use Rattle.records.specs.declared.scan.Stop.{Stop}
 use Rattle.records.specs.declared.scan.Stop.TheVariants.{Comma, Break, End}
@@ -29,7 +29,7 @@ behind_halted Comma rest after e = (subst Halted (sym e) (λ h. h.0 refl), λ q.
 behind_halted Break rest after e = (subst Halted (sym e) (λ h. h.2 refl), λ q. omega (arith, ap (λ l. get_or l 0 0) e))
 behind_halted End rest after (e, f) = (subst Halted (sym e) tt, λ q. omega (arith, ap (λ l. get_or l 0 0) e))
 
-no_quote : (p rest s : List ℕ) → s ≡ p ++ rest → All Plain p → (0 < length p) ⊎ (get_or rest 0 0 ≡ 34 → ⊥) → get_or s 0 0 ≡ 34 → ⊥
+no_quote : (p rest s : List ℕ) → s ≡ p ++ rest → AllByRecursion Plain p → (0 < length p) ⊎ (get_or rest 0 0 ≡ 34 → ⊥) → get_or s 0 0 ≡ 34 → ⊥
 no_quote [] rest s e h k q = ⊎_elim (λ lt. omega arith) (λ ne. ne (sym (ap (λ l. get_or l 0 0) e) ∙ q)) k
 no_quote (b ∷ p) rest s e h k q = h.0.1 (sym (ap (λ l. get_or l 0 0) e) ∙ q)
 

@@ -1,6 +1,6 @@
 -- What is written reads back: the reading is built along the writing, and there is no other.
 use Rattle.std.proofs.Common.{◌≡◌, ℕ, ◌-◌, ◌<◌, ◌≤◌, List, [], ◌∷◌, ◌++◌, map, length, Some, Option, sym, refl, ap, ◌∙◌, subst, arith, length-append}
-use Rattle.std.specs.List.{AllByRecursion as All}
+use Rattle.std.specs.List.{AllByRecursion}
 use Rattle.std.proofs.lemmas.List.{append_assoc}
 use Rattle.records.specs.declared.scan.Stop.{Stop}
 use Rattle.records.specs.declared.scan.Stop.TheVariants.{Comma, Break}
@@ -43,7 +43,7 @@ record Back (n : ℕ) (s : List ℕ) (es : List Entry) (after : List ℕ) : Type
 tail_fits : (w rest : List ℕ) (n : ℕ) → length (w ++ 44 ∷ rest) ≤ n → length rest ≤ n
 tail_fits w rest n h = omega (arith, length-append w (44 ∷ rest))
 
-record_back : (n : ℕ) (e : Entry) (es : List Entry) (after : List ℕ) → Fit e → All Fit es → length (write_record e es ++ after) ≤ n → Back n (write_record e es ++ after) (e ∷ es) after
+record_back : (n : ℕ) (e : Entry) (es : List Entry) (after : List ℕ) → Fit e → AllByRecursion Fit es → length (write_record e es ++ after) ≤ n → Back n (write_record e es ++ after) (e ∷ es) after
 record_back n e [] after fit fits room =
     let shape : write_record e [] ++ after ≡ write_field e ++ 13 ∷ 10 ∷ after = append_assoc (write_field e) (13 ∷ 10 ∷ []) after in
     let s = write_field e ++ 13 ∷ 10 ∷ after in
@@ -74,7 +74,7 @@ record_some_bytes e (f ∷ fs) = omega (arith, length-append (write_field e) (44
 abbrev told : Entry × List Entry → Option (List Entry)
 told r = Some (r.0 ∷ r.1)
 
-lines_back : (n : ℕ) (rs : List (Entry × List Entry)) → All FitRecord rs → length (write_text rs) ≤ n → (ls : List Line) × Lines n (write_text rs) ls × (map content ls ≡ map told rs)
+lines_back : (n : ℕ) (rs : List (Entry × List Entry)) → AllByRecursion FitRecord rs → length (write_text rs) ≤ n → (ls : List Line) × Lines n (write_text rs) ls × (map content ls ≡ map told rs)
 lines_back n [] fits room = ([], refl, refl)
 lines_back n (r ∷ rs) fits room =
     let after = write_text rs in

@@ -1,6 +1,6 @@
 -- How far a field goes: the bytes decide it.
 use Rattle.std.proofs.Common.{◌≡◌, ℕ, List, [], ◌∷◌, ◌++◌, length, get_or, drop, sym, refl, ap, ◌∙◌, subst, arith}
-use Rattle.std.specs.List.{AllByRecursion as All}
+use Rattle.std.specs.List.{AllByRecursion}
 use Rattle.records.specs.Grammar.{Plain, Doubled}
 use Rattle.records.specs.Grammar.Doubled.{none, other, pair}
 
@@ -21,11 +21,11 @@ Halted [] = Unit {0}
 Halted (b ∷ t) = Plain b → ⊥
 
 abbrev pub Scan : List ℕ → Outcome → Type 0
-Scan s (plain p rest) = (s ≡ p ++ rest) × All Plain p × Halted rest × (get_or s 0 0 ≡ 34 → ⊥)
+Scan s (plain p rest) = (s ≡ p ++ rest) × AllByRecursion Plain p × Halted rest × (get_or s 0 0 ≡ 34 → ⊥)
 Scan s (closed p rest) = (s ≡ 34 ∷ (p ++ 34 ∷ rest)) × Doubled p × (get_or rest 0 0 ≡ 34 → ⊥)
 Scan s (unended p) = (s ≡ 34 ∷ p) × Doubled p
 
-split : (p q r t : List ℕ) → All Plain p → All Plain q → Halted r → Halted t → p ++ r ≡ q ++ t → (p ≡ q) × (r ≡ t)
+split : (p q r t : List ℕ) → AllByRecursion Plain p → AllByRecursion Plain q → Halted r → Halted t → p ++ r ≡ q ++ t → (p ≡ q) × (r ≡ t)
 split [] [] r t h k x y e = (refl, e)
 split [] (c ∷ q) r t h k x y e = absurd (subst Halted e x k.0)
 split (b ∷ p) [] r t h k x y e = absurd (subst Halted (sym e) y h.0)

@@ -1,6 +1,6 @@
 -- Every text has a reading: first how far a field goes, then a field or a fault, then a record, then the whole.
 use Rattle.std.proofs.Common.{◌≡◌, ℕ, zero, suc, ◌+◌, ◌-◌, ◌<◌, ◌≤◌, ◌⊎◌, List, [], ◌∷◌, ◌++◌, length, get_or, drop, sym, refl, ap, ◌∙◌, subst, inl, inr, ⊎_elim, arith}
-use Rattle.std.specs.List.{AllByRecursion as All}
+use Rattle.std.specs.List.{AllByRecursion}
 use Rattle.std.proofs.lemmas.List.{append_assoc}
 use Rattle.std.proofs.lemmas.Bool.{cases_eq}
 use Rattle.records.specs.declared.scan.Stop.{Stop}
@@ -41,7 +41,7 @@ record Span (s : List ℕ) : Type 0 where
   front : List ℕ
   rest : List ℕ
   cut : s ≡ front ++ rest
-  all : All Plain front
+  all : AllByRecursion Plain front
   halted : Halted rest
 
 span : (s : List ℕ) → Span s

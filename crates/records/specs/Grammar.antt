@@ -1,7 +1,7 @@
 -- The grammar of a text, as relations on lists of bytes: 44 is a comma, 34 a quote, 13 and 10 together a line break.
 -- Of a text of n bytes, what is left of it, a list s, begins at the place n - length s.
 use Rattle.std.specs.Prelude.{◌≡◌, ℕ, ◌+◌, ◌<◌, cond, ◌&&◌, ◌⊎◌, List, [], ◌∷◌, ◌++◌, length, drop, ◌==◌, ◌≢◌, slice_index}
-use Rattle.std.specs.List.{AllByRecursion as All}
+use Rattle.std.specs.List.{AllByRecursion}
 use Rattle.records.specs.declared.scan.Stop.{Stop}
 use Rattle.records.specs.declared.scan.Stop.TheVariants.{Comma, Break, End}
 
@@ -32,7 +32,7 @@ pub data Doubled : List ℕ → Type 0 where
 
 -- the bytes w are the field
 abbrev pub Writes : Piece → List ℕ → Type 0
-Writes (bare v at) w = (w ≡ v) × All Plain v
+Writes (bare v at) w = (w ≡ v) × AllByRecursion Plain v
 Writes (quoted v at) w = (w ≡ 34 ∷ (v ++ 34 ∷ [])) × Doubled v
 
 -- what ends a field, and what is left behind it
@@ -65,7 +65,7 @@ Amiss (b ∷ t) = (b ≢ 44) × (b ≢ 34) × (b ≡ 13 → slice_index t 0 ≢ 
 
 -- s does not begin with a field: the byte k behind its beginning is at fault
 pub data Faulty (s : List ℕ) (k : ℕ) : Type 0 where
-  stray : (p rest : List ℕ) → s ≡ p ++ rest → All Plain p → Stray p rest → k ≡ length p → Faulty s k
+  stray : (p rest : List ℕ) → s ≡ p ++ rest → AllByRecursion Plain p → Stray p rest → k ≡ length p → Faulty s k
   unclosed : (p : List ℕ) → s ≡ 34 ∷ p → Doubled p → k ≡ length s → Faulty s k
   amiss : (p rest : List ℕ) → s ≡ 34 ∷ (p ++ 34 ∷ rest) → Doubled p → Amiss rest → k ≡ length p + 2 → Faulty s k
 

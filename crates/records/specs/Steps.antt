@@ -1,6 +1,6 @@
 -- What a byte makes of a field, and what is read when the reading halts.
 use Rattle.std.specs.Prelude.{◌≡◌, ℕ, ◌≤◌, Bool, true, false, cond, ◌⊎◌, List, [], ◌∷◌, ◌++◌, length, take, drop, ◌==◌, ◌≢◌, slice_index}
-use Rattle.std.specs.List.{AllByRecursion as All}
+use Rattle.std.specs.List.{AllByRecursion}
 use Rattle.records.specs.declared.scan.State.{State}
 use Rattle.records.specs.declared.scan.State.TheVariants.{Bare, Quoted, AfterQuote}
 use Rattle.records.specs.declared.scan.Step.{Step}
@@ -17,7 +17,7 @@ step_of AfterQuote b = cond (b == 44) to.Comma (cond (b == 34) (to.On Quoted) (c
 
 -- what the bytes of a field read so far are, by the state that they leave it in; the opening quote is not among them
 abbrev pub Read : State → List ℕ → Type 0
-Read Bare p = All Plain p
+Read Bare p = AllByRecursion Plain p
 Read Quoted p = Doubled p
 Read AfterQuote p = (q : List ℕ) × (p ≡ q ++ 34 ∷ []) × Doubled q
 

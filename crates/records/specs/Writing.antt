@@ -1,6 +1,6 @@
 -- A writer of texts, and that what it writes reads back.
 use Rattle.std.specs.Prelude.{◌≡◌, ℕ, List, [], ◌∷◌, ◌++◌, map, Some, None, Option}
-use Rattle.std.specs.List.{AllByRecursion as All}
+use Rattle.std.specs.List.{AllByRecursion}
 use Rattle.records.specs.Grammar.{Piece, Plain, Doubled}
 use Rattle.records.specs.Grammar.Piece.{bare, quoted}
 use Rattle.records.specs.Readings.{Line, Reading}
@@ -13,7 +13,7 @@ pub data Entry : Type 0 where
 
 -- a value that may stand as it is, or in quotes
 abbrev pub Fit : Entry → Type 0
-Fit (as_is v) = All Plain v
+Fit (as_is v) = AllByRecursion Plain v
 Fit (in_quotes v) = Doubled v
 
 abbrev pub write_field : Entry → List ℕ
@@ -30,7 +30,7 @@ write_text [] = []
 write_text (r ∷ rs) = write_record r.0 r.1 ++ write_text rs
 
 abbrev pub FitRecord : Entry × List Entry → Type 0
-FitRecord r = Fit r.0 × All Fit r.1
+FitRecord r = Fit r.0 × AllByRecursion Fit r.1
 
 -- what a line says, wherever it stands: the fields of a record, and nothing of a fault
 abbrev pub entry : Piece → Entry
@@ -43,4 +43,4 @@ content (fault at bad next) = None
 
 -- each text that is written from fields that fit reads back to those fields, record by record, without a fault
 abbrev pub EveryWrittenTextReadsBack : Type 0
-EveryWrittenTextReadsBack = (rs : List (Entry × List Entry)) → All FitRecord rs → (ls : List Line) → Reading (write_text rs) ls → map content ls ≡ map (λ r. Some (r.0 ∷ r.1)) rs
+EveryWrittenTextReadsBack = (rs : List (Entry × List Entry)) → AllByRecursion FitRecord rs → (ls : List Line) → Reading (write_text rs) ls → map content ls ≡ map (λ r. Some (r.0 ∷ r.1)) rs
