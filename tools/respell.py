@@ -52,7 +52,8 @@ def texts():
 
 def is_own(path):
     head = path.strip().split(".")
-    return head[0] == "Rattle" and os.path.isdir("crates/" + head[1]) and not path.strip().endswith(".Goals") and not path.strip().endswith(".Given")
+    made = "proofs" in head and head[-1] in ("Goals", "Given")
+    return head[0] == "Rattle" and os.path.isdir("crates/" + head[1]) and not made
 
 
 def is_generated(file):
