@@ -10,7 +10,6 @@ import os
 import re
 import sys
 
-NAME = r"[^\s(){}\[\];,.:\"«»⌜⌝λ@|]+"
 TOKEN = re.compile(r"(?<![^\s(){}\[\];,.:\"«»⌜⌝λ@|`'])" + r"[A-Za-z][A-Za-z0-9_'-]*[A-Za-z0-9_']" + r"(?![^\s(){}\[\];,.:\"«»⌜⌝λ@|`'])")
 DECLARED = re.compile(r"^\s*(?:(?:(?:pub|abbrev|unfoldable|record|data|let)\s+)*([A-Za-z][A-Za-z0-9_'-]*)\s*:\s|(?:pub\s+)?(?:record|data)\s+([A-Za-z][A-Za-z0-9_'-]*)\s*[({])")
 IMPORT = re.compile(r"^\s*(?:ghost\s+)?use\s+([^{;]+?)\.\{([^}]*)\}", re.M)
@@ -29,16 +28,17 @@ is-full permission-number is-permission goes-beyond reaches-barred read-on""".sp
 SPECIAL.update({name: name.replace("-", "_") + "_lem" for name in WITH_SUFFIX})
 
 
-# Variables of lemmas, which no line declares, and a name that the toolchain's script left half turned.
-VARIABLES = {"Read_from", "as-cut", "as-spot", "as-told", "as-way", "no-lf", "not-comma", "not-cr", "not-lf", "not-quote"}
+# Names that no line declares with a dash: variables of lemmas, and one that the toolchain's script left half turned.
+UNDECLARED = {"Read_from", "as-cut", "as-spot", "as-told", "as-way", "no-lf", "not-comma", "not-cr", "not-lf", "not-quote"}
 
 
 def camel(name):
     return "".join(part[:1].upper() + part[1:] for part in name.split("-"))
 
 
-def respelt(name):
-    if name in SPECIAL:
+def respelt(name, before=""):
+    # behind a dot stands a step of a proof, which is called by the function's own name
+    if name in SPECIAL and before != ".":
         return SPECIAL[name]
     if name[0].isupper():
         return camel(name)
@@ -62,7 +62,7 @@ def is_generated(file):
 
 def main():
     write = "--write" in sys.argv
-    own = set(VARIABLES)
+    own = set(UNDECLARED)
     local = collections.defaultdict(set)
     kept = collections.defaultdict(set)
     for file in texts():
@@ -88,20 +88,21 @@ def main():
     for file in texts():
         text = open(file, encoding="utf-8").read()
         todo = (own | local[file]) - kept[file]
-        present = {m.group(0) for m in TOKEN.finditer(text)}
         by_new = collections.defaultdict(set)
-        for name in present:
-            by_new[respelt(name) if name in todo else name].add(name)
+
+        def turn(found):
+            name = found.group(0)
+            before = text[found.start() - 1 : found.start()]
+            new = respelt(name, before) if name in todo else name
+            if before != ".":
+                by_new[new].add(name)
+            return new
+
+        turned = TOKEN.sub(turn, text)
         for new, olds in by_new.items():
             if len(olds) > 1:
                 clashes += 1
                 print("clash:", file, new, sorted(olds))
-
-        def turn(found):
-            name = found.group(0)
-            return respelt(name) if name in todo else name
-
-        turned = TOKEN.sub(turn, text)
         if turned != text and write:
             open(file, "w", encoding="utf-8").write(turned)
     # pages and must-fail edits name definitions too

@@ -1,11 +1,10 @@
 -- A record that is no request answers nothing, and changes names and draft alone.
 use Rattle.std.proofs.Common.{◌≡◌, ℕ, List, None, refl}
-use Rattle.drafting.specs.Effects.{names_after, draft_after}
 use Rattle.kinds.specs.declared.kind.Kind.{Kind}
 use Rattle.kinds.specs.declared.kind.Kind.TheVariants.{Declare, Permission, RolePair, Entry, Relate, Ask}
 use Rattle.kinds.specs.declared.kind.Request.{Request}
 use Rattle.console.specs.Boxes.{Box}
-use Rattle.console.specs.Recording.{done_reply, done_box}
+use Rattle.console.specs.Recording.{done_reply, done_box, tables_after}
 
 module _ (b : Box) (vs : List (List ℕ)) where
   pub table_reply : (k : Kind) → ((q : Request) → k ≡ Ask q → ⊥) → None ≡ done_reply b k vs
@@ -16,7 +15,7 @@ module _ (b : Box) (vs : List (List ℕ)) where
   table_reply (Relate r) n = refl
   table_reply (Ask q) n = absurd (n q refl)
 
-  pub table_box : (k : Kind) → ((q : Request) → k ≡ Ask q → ⊥) → record { names = names_after b.names k vs; draft = draft_after b.names b.draft k vs; site = b.site } ≡ done_box b k vs
+  pub table_box : (k : Kind) → ((q : Request) → k ≡ Ask q → ⊥) → tables_after b k vs ≡ done_box b k vs
   table_box (Declare t) n = refl
   table_box Permission n = refl
   table_box RolePair n = refl

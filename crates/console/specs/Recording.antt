@@ -60,7 +60,8 @@ done_reply b Entry vs = None
 done_reply b (Relate r) vs = None
 done_reply b (Ask q) vs = Some (request_answer b vs (asked_of b.names b.draft q vs))
 
-abbrev tables_after : Box → Kind → List (List ℕ) → Box
+-- the box after a table record
+abbrev pub tables_after : Box → Kind → List (List ℕ) → Box
 tables_after b k vs = record { names = names_after b.names k vs; draft = draft_after b.names b.draft k vs; site = b.site }
 
 -- and what it leaves
