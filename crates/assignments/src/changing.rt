@@ -10,7 +10,7 @@ use stores::{PairSet, copy};
 use tables::{Draft, Relation};
 
 impl<S: PairSet, T: PairSet> Assignments<S, T> {
-    // Nothing is assigned, whatever the two sets held before.
+    // Nothing is assigned, whatever the two sets held before. They are two parameters, here and above: their makes differ.
     pub fn new(mut role_pairs: S, mut permissions: T) -> Assignments<S, T>
         ensures { assigned S.PairSet.pairs T.PairSet.pairs result ≡ nothing_assigned }
     {
@@ -36,7 +36,7 @@ impl<S: PairSet, T: PairSet> Assignments<S, T> {
         );
     }
 
-    // Whether the pair is assigned.
+    // Whether the pair is assigned. An arm for each set, here and below, since the two can differ in their make.
     pub fn contains(&self, spot: Spot) -> bool
         ensures { result ≡ assigned S.PairSet.pairs T.PairSet.pairs self.now spot }
     {

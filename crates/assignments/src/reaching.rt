@@ -6,7 +6,7 @@ ghost use Rattle.assignments.specs.Assigned.{assigned, in_range};
 use crate::assignments::Assignments;
 use rules::Spot;
 use stores::PairSet;
-use tables::{Draft, LIST_LIMIT, Relation};
+use tables::{Draft, Item, LIST_LIMIT, Relation, RolePair};
 
 impl<S: PairSet, T: PairSet> Assignments<S, T> {
     // Whether a permission assigned to the device role is barred to the role of the role pair.
@@ -15,15 +15,10 @@ impl<S: PairSet, T: PairSet> Assignments<S, T> {
         ensures { result ≡ column_barred draft.now (assigned S.PairSet.pairs T.PairSet.pairs self.now) (Spot.RolePair role_pair device_role) }
     {
         let bars = draft.relation(Relation::Bars);
-        let role = draft.role_pairs[role_pair as usize].role;
-        for permission in 0..LIST_LIMIT {
-            if self.permissions.contains(permission, device_role)
-                && bars.contains(permission, role)
-            {
-                return true;
-            }
-        }
-        false
+        let role = RolePair::at(draft, role_pair).role;
+        (0..LIST_LIMIT).any(|permission| {
+            self.permissions.contains(permission, device_role) && bars.contains(permission, role)
+        })
     }
 
     // Whether the permission is barred to the role of a role pair assigned to the device role.
@@ -31,14 +26,9 @@ impl<S: PairSet, T: PairSet> Assignments<S, T> {
         ensures { result ≡ column_barred draft.now (assigned S.PairSet.pairs T.PairSet.pairs self.now) (Spot.Permission permission device_role) }
     {
         let roles = draft.relation(Relation::Bars).row(permission);
-        for place in 0..LIST_LIMIT {
-            if self.role_pairs.contains(place, device_role)
-                && roles.contains(draft.role_pairs[place as usize].role)
-            {
-                return true;
-            }
-        }
-        false
+        (0..LIST_LIMIT).zip(&draft.role_pairs.places).any(|(place, role_pair)| {
+            self.role_pairs.contains(place, device_role) && roles.contains(role_pair.role)
+        })
     }
 
     // Whether with the pair some role would reach, by the pair's device role, a permission barred to it.

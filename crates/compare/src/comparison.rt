@@ -38,6 +38,7 @@ pub fn compare<S: PairSet, T: PairSet>(
     let mut answers = Vec::with_capacity(heap, steps.len())?;
     fill(one, opening);
     fill(two, opening);
+    // Not a collect: its memory could turn out short when steps are already played.
     for step in steps {
         let one = play(one, *step);
         let two = play(two, *step);

@@ -7,41 +7,25 @@ mod example;
 mod report;
 mod step;
 
-use crate::step::Step;
-use anyhow::anyhow;
-use index_set::IndexSet;
+use anyhow::Context;
+use example::Example;
 use pair_list::{PLACES, PairList};
+use std::alloc::Global;
 use stores::{BitRows, Pair};
 
 fn compare_makes(
-    rt: &HostRuntime,
+    rt: &impl Print,
+    heap: Global,
     memory: &mut [Pair],
-    title: &str,
-    opening: &[Pair],
-    steps: &[Step],
+    example: &Example,
 ) -> anyhow::Result<()> {
-    let Ok(list) = IndexSet::new(memory, PLACES) else {
-        return Err(anyhow!("the memory for the pair list is too short"));
-    };
-    println!(rt; "{title}")?;
-    report::show(rt, BitRows::new(), PairList::new(list), opening, steps)
+    let list = PairList::over(memory).context("memory for the pair list")?;
+    report::show(rt, heap, BitRows::new(), list, example)
 }
 
 fn main(rt: HostRuntime) -> anyhow::Result<()> {
     let mut memory = [Pair { left: 0, right: 0 }; PLACES];
-    compare_makes(
-        &rt,
-        &mut memory,
-        "Role pairs assigned to device roles",
-        &example::ROLE_PAIRS,
-        &example::ROLE_PAIR_STEPS,
-    )?;
+    compare_makes(&rt, rt.alloc(), &mut memory, &example::ROLE_PAIRS)?;
     println!(rt; "")?;
-    compare_makes(
-        &rt,
-        &mut memory,
-        "Permissions assigned to device roles",
-        &example::PERMISSIONS,
-        &example::PERMISSION_STEPS,
-    )
+    compare_makes(&rt, rt.alloc(), &mut memory, &example::PERMISSIONS)
 }

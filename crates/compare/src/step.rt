@@ -1,7 +1,18 @@
 use std::fmt;
 use stores::Pair;
 
+// A pair as text.
+#[derive(Clone, Copy)]
+pub struct Shown(pub Pair);
+
+impl fmt::Display for Shown {
+    fn fmt<W: fmt::Write>(&self, f: &mut fmt::Formatter<W>) -> fmt::Result {
+        write!(f, "({}, {})", self.0.left, self.0.right)
+    }
+}
+
 // One call on a set of pairs.
+// It is data and no closure, so that it can be shown, and so that the theorem can speak of a list of steps.
 #[derive(Clone, Copy)]
 pub enum Step {
     Insert(Pair),
@@ -11,13 +22,10 @@ pub enum Step {
 
 impl fmt::Display for Step {
     fn fmt<W: fmt::Write>(&self, f: &mut fmt::Formatter<W>) -> fmt::Result {
-        let (word, pair) = match self {
-            Step::Insert(pair) => ("insert", *pair),
-            Step::Remove(pair) => ("remove", *pair),
-            Step::Contains(pair) => ("contains", *pair),
-        };
-        let left = pair.left;
-        let right = pair.right;
-        write!(f, "{word} ({left}, {right})")
+        match *self {
+            Step::Insert(pair) => write!(f, "insert {}", Shown(pair)),
+            Step::Remove(pair) => write!(f, "remove {}", Shown(pair)),
+            Step::Contains(pair) => write!(f, "contains {}", Shown(pair)),
+        }
     }
 }

@@ -1,68 +1,29 @@
 -- The active environment roles of a list of entries, by its first and the rest, and in words.
-use Rattle.std.proofs.Common.{◌≡◌, ℕ, zero, suc, ◌+◌, ◌-◌, ◌<◌, Bool, true, false, cond, not, ◌&&◌, ◌||◌, eqb, ◌⊎◌, List, [], ◌∷◌, length, get_or, take, drop, Decides, sym, refl, ap, ◌∙◌, inl, inr, ⊎_elim, arith}
-use Rattle.std.proofs.lemmas.Bool.{cases_Bool, and_parts, and_from, or_left, or_right, eqb-true, eq-eqb, ltb-true, false≢true, cond-true, cond-false}
+use Rattle.std.proofs.Common.{◌≡◌, ℕ, zero, suc, ◌+◌, ◌<◌, Bool, true, false, cond, not, ◌&&◌, ◌||◌, eqb, ◌⊎◌, List, [], ◌∷◌, ◌++◌, length, get_or, take, Decides, sym, refl, ap, ◌∙◌, inl, inr, ⊎_elim, arith}
+use mathlib.Core.Path.{fun_ext}
+use Rattle.std.proofs.lemmas.List.{take_more}
+use Rattle.std.proofs.lemmas.Bool.{cases_Bool, and_parts, and_from, or_left, or_right, eqb-true, eq-eqb, false≢true}
 use Rattle.std.proofs.lemmas.Bool.Decides.{nat_tests, Decides-at, Decides-like, Decides-or}
-use Rattle.search.specs.Below.{all_below}
-use Rattle.search.proofs.Somes.{all_decides, all_more, all_fails}
-use Rattle.rows.specs.Numbers.{in_row, no_numbers, with_number, bits_of}
+use Rattle.search.proofs.Somes.{all_decides}
+use Rattle.rows.specs.Numbers.{in_row, no_numbers, with_number, within}
+use Rattle.rows.proofs.Bits.{bits_below}
 use Rattle.rows.specs.Rows.{numbers}
 use Rattle.rows.specs.declared.row.Row.{Row}
+use Rattle.search.proofs.Ranges.{swap}
 use Rattle.tables.specs.declared.parts.Entry.{Entry}
 use Rattle.conditions.specs.Active.{all_hold, active, Activates, ActiveByOne, no_entry}
 use Rattle.conditions.specs.Limits.{condition_count}
-use Rattle.conditions.proofs.Slices.{nil_of, cons_of}
-
--- what a loop over the conditions looks for: one that is wanted and does not hold
-abbrev pub fine : (ℕ → Bool) → (ℕ → Bool) → ℕ → Bool
-fine wanted holding k = not (wanted k) || holding k
-
-pub hold_missing : (wanted holding : ℕ → Bool) (k : ℕ) → k < condition_count → wanted k ≡ true → holding k ≡ false → false ≡ all_hold wanted holding
-unfolding all_hold
-hold_missing wanted holding k h w n = all_fails (fine wanted holding) condition_count k h (grind (arith, nat_tests))
-
-pub hold_more : (wanted holding : ℕ → Bool) (k : ℕ) → all_below (fine wanted holding) k ≡ true → fine wanted holding k ≡ true → all_below (fine wanted holding) (k + 1) ≡ true
-hold_more wanted holding k = all_more (fine wanted holding) k
-
-pub hold_all : (wanted holding : ℕ → Bool) (n : ℕ) → n ≡ condition_count → all_below (fine wanted holding) n ≡ true → true ≡ all_hold wanted holding
-unfolding all_hold
-hold_all wanted holding n e t = sym (ap (all_below (fine wanted holding)) (sym e) ∙ t)
-
-row_below : (r : Row) (k : ℕ) → numbers r k ≡ true → k < condition_count
-unfolding bits_of
-row_below r k e = ltb-true k condition_count (and_parts (in_row k) _ e).0
 
 -- all conditions of an entry hold, in words
 pub hold_words : (r : Row) (holding : ℕ → Bool) → Decides (all_hold (numbers r) holding) ((c : ℕ) → numbers r c ≡ true → holding c ≡ true)
 unfolding all_hold
 hold_words r holding = (
-  (λ t c w. let f = (all_decides (fine (numbers r) holding) condition_count).0 t c (row_below r c w) in grind (arith, nat_tests)),
-  (λ a. (all_decides (fine (numbers r) holding) condition_count).1 (λ c _. ⊎_elim
+  (λ t c w. let f = (all_decides (within (numbers r) holding) condition_count).0 t c (bits_below r.bits c w) in grind (arith, nat_tests)),
+  (λ a. (all_decides (within (numbers r) holding) condition_count).1 (λ c _. ⊎_elim
       (λ w. or_right (not (numbers r c)) (holding c) (a c w))
       (λ n. or_left (not (numbers r c)) (holding c) (ap not n))
       (cases_Bool (numbers r c)))),
 )
-
--- of no entry, and of the first and the rest
-pub active_none : (holding : ℕ → Bool) (es : List Entry) (roles : ℕ → Bool) → length es < 1 → roles ≡ no_numbers → roles ≡ active holding es
-unfolding active
-active_none holding es roles h e = e ∙ sym (ap (active holding) (nil_of es h))
-
-module _ (holding : ℕ → Bool) (es : List Entry) (d : Entry) (h : 0 < length es) (others : ℕ → Bool)
-    (so_far : others ≡ active holding (take (length es - 1) (drop 1 es))) where
-  first_holds : Bool
-  first_holds = all_hold (numbers (get_or es 0 d).conditions) holding
-
-  first_and_rest : active holding es ≡ cond first_holds (with_number others (get_or es 0 d).environment_role) others
-  unfolding active first_holds
-  first_and_rest = ap (active holding) (cons_of es d h) ∙ ap (λ s. cond first_holds (with_number s (get_or es 0 d).environment_role) s) (sym so_far)
-
-  pub active_with : (roles : ℕ → Bool) → true ≡ all_hold (numbers (get_or es 0 d).conditions) holding → roles ≡ with_number others (get_or es 0 d).environment_role → roles ≡ active holding es
-  unfolding first_holds
-  active_with roles t r = r ∙ sym (first_and_rest ∙ cond-true first_holds _ _ (sym t))
-
-  pub active_same : false ≡ all_hold (numbers (get_or es 0 d).conditions) holding → others ≡ active holding es
-  unfolding first_holds
-  active_same f = sym (first_and_rest ∙ cond-false first_holds _ _ (sym f))
 
 -- the first entry activates k, as a test
 first_test : (holding : ℕ → Bool) (e : Entry) (k : ℕ) → Bool
@@ -86,6 +47,32 @@ active_at holding e es k = by (all_hold (numbers e.conditions) holding)
     by : (b : Bool) → cond b (with_number (active holding es) e.environment_role) (active holding es) k ≡ ((b && (in_row e.environment_role && eqb e.environment_role k)) || active holding es k)
     by true = refl
     by false = refl
+
+-- with one entry more at the end
+push_at : (holding : ℕ → Bool) (es : List Entry) (e : Entry) (k : ℕ) → active holding (es ++ e ∷ []) k ≡ (first_test holding e k || active holding es k)
+push_at holding [] e k = active_at holding e [] k
+push_at holding (x ∷ es) e k =
+    active_at holding x (es ++ e ∷ []) k
+    ∙ ap (λ b. first_test holding x k || b) (push_at holding es e k)
+    ∙ swap (first_test holding x k) (first_test holding e k) (active holding es k)
+    ∙ ap (λ b. first_test holding e k || b) (sym (active_at holding x es k))
+
+pub active_none : (holding : ℕ → Bool) → active holding [] ≡ no_numbers
+unfolding active
+active_none holding = refl
+
+-- a turn of a loop over the entries, where the conditions of the entry hold, and where they do not
+module _ (holding : ℕ → Bool) (es : List Entry) (i : ℕ) (d : Entry) (h : i < length es) (roles : ℕ → Bool) (so_far : roles ≡ active holding (take i es)) where
+  one_more : (k : ℕ) → active holding (take (i + 1) es) k ≡ (first_test holding (get_or es i d) k || roles k)
+  one_more k = ap (λ xs. active holding xs k) (take_more es i d h) ∙ push_at holding (take i es) (get_or es i d) k ∙ ap (λ s. first_test holding (get_or es i d) k || s k) (sym so_far)
+
+  pub active_with : (after : ℕ → Bool) → all_hold (numbers (get_or es i d).conditions) holding ≡ true → after ≡ with_number roles (get_or es i d).environment_role → after ≡ active holding (take (i + 1) es)
+  unfolding first_test with_number
+  active_with after t e = e ∙ fun_ext λ k. sym (one_more k ∙ ap (λ b. (b && (in_row (get_or es i d).environment_role && eqb (get_or es i d).environment_role k)) || roles k) t)
+
+  pub active_same : (after : ℕ → Bool) → all_hold (numbers (get_or es i d).conditions) holding ≡ false → after ≡ roles → after ≡ active holding (take (i + 1) es)
+  unfolding first_test
+  active_same after f e = e ∙ fun_ext λ k. sym (one_more k ∙ ap (λ b. (b && (in_row (get_or es i d).environment_role && eqb (get_or es i d).environment_role k)) || roles k) f)
 
 -- an entry of the list is its first or one of the rest
 first_or_rest : (P : Entry → Type 0) (e : Entry) (es : List Entry) (i : ℕ) → i < length (e ∷ es) → P (get_or (e ∷ es) i no_entry)

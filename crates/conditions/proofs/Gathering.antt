@@ -1,10 +1,9 @@
 -- Sets of numbers: the conditions that hold, gathered one after another, and one set within another.
-use Rattle.std.proofs.Common.{◌≡◌, ℕ, ◌+◌, ◌<◌, Bool, true, false, not, ◌&&◌, ◌||◌, ltb, refl, ap, ◌∙◌, arith}
-use mathlib.Core.Bool.{beq}
+use Rattle.std.proofs.Common.{◌≡◌, ℕ, ◌+◌, ◌<◌, Bool, true, false, ◌&&◌, ltb, refl, ap, arith}
 use mathlib.Core.Path.{fun_ext}
 use Rattle.conditions.specs.Active.{all_hold}
 use Rattle.conditions.specs.Limits.{is_condition}
-use Rattle.rows.specs.Numbers.{no_numbers, with_number, both, agree}
+use Rattle.rows.specs.Numbers.{no_numbers, with_number, within}
 use Rattle.search.specs.Below.{all_below}
 use Rattle.std.proofs.lemmas.Bool.Decides.{nat_tests}
 
@@ -26,12 +25,7 @@ none_more s t holding n i e q k = let f = ap (λ u. u k) q in let j = i k in let
 pub all_gathered : (s holding : ℕ → Bool) (n : ℕ) → n ≡ 32 → ((k : ℕ) → holding k ≡ true → is_condition k ≡ true) → Gathered s holding n → s ≡ holding
 all_gathered s holding n h b i = fun_ext λ k. let j = i k in let m = b k in grind (arith, nat_tests)
 
-alike : (a b : Bool) → beq (a && b) a ≡ (not a || b)
-alike false b = refl
-alike true false = refl
-alike true true = refl
-
--- every number of w is in v exactly where w and both are the same set
-pub within_is : (w v u : ℕ → Bool) → u ≡ both w v → all_below (agree u w) 32 ≡ all_hold w v
+-- every number of the row w is in the row v exactly where all conditions of w hold by v
+pub within_is : (w v : ℕ → Bool) → all_below (within w v) 32 ≡ all_hold w v
 unfolding all_hold
-within_is w v u e = ap (λ x. all_below (agree x w) 32) e ∙ ap (λ f. all_below f 32) (fun_ext λ k. alike (w k) (v k))
+within_is w v = refl

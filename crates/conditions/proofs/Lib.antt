@@ -1,6 +1,5 @@
 mod Reports
 mod Timing
 mod Splits
-mod Slices
 pub mod Actives
-mod Gathering
+pub mod Gathering

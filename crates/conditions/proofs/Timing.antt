@@ -1,6 +1,9 @@
 -- The windows of a clock, by condition, and what a new window leaves.
-use Rattle.std.proofs.Common.{◌≡◌, ℕ, zero, suc, ◌<◌, ◌≤◌, Bool, true, false, cond, ◌&&◌, eqb, List, length, get_or, set, replicate, sym, refl, ap, ◌∙◌, ⊎_elim, arith}
+use Rattle.std.proofs.Common.{Some, None, Option, ◌≡◌, ℕ, zero, suc, ◌<◌, ◌≤◌, Bool, true, false, cond, ◌&&◌, eqb, List, length, get_or, set, replicate, sym, refl, ap, ◌∙◌, ⊎_elim, arith}
 use mathlib.Core.Path.{fun_ext}
+use denote.Ref.{Bor}
+use Rattle.std.specs.Option.{MatchOption}
+use Rattle.std.specs.Slice.{IsItemAt}
 use Rattle.std.proofs.lemmas.List.{get_or-set_same, get_or-set_other, get_or_default}
 use Rattle.std.proofs.lemmas.Bool.{cases_eq, cases_Bool, lt-ltb, le-ltb, eq-eqb, ne_eqb, cond-true, cond-false, and_from, and_right}
 use Rattle.std.proofs.lemmas.Bool.Decides.{nat_tests}
@@ -70,6 +73,12 @@ pub timed_in : (m : ℕ) (ws : List Window) (k : ℕ) (d : Window) (r : Bool) �
 unfolding timed_at
 timed_in m ws k d r l h e =
     e ∙ ap (λ (w : Window). in_window m w.from w.to) (get_or_default ws k d (window 0 0) (omega arith) ∙ sym (window_at ws k h))
+
+-- the answer by the window that is found
+pub timed_get : (m : ℕ) (ws : List Window) (k : ℕ) (found : Option (Bor Window)) (r : Bool) → length ws ≡ condition_count → IsItemAt ws k found
+    → MatchOption found (r ≡ false) (λ w. r ≡ in_window m w.now.from w.now.to) → r ≡ timed_at m (windows_in ws) k
+timed_get m ws k None r l g e = timed_past m ws k r (omega (arith, g.3)) e
+timed_get m ws k (Some w) r l g e = timed_in m ws k w.now r l (omega (arith, g.3.0)) (e ∙ ap (λ (x : Window). in_window m x.from x.to) g.1)
 
 pub timed_words : (m : ℕ) (ws : ℕ → Window) (k : ℕ) (r : Bool) → r ≡ timed_at m ws k → InWindow m (ws k).from (ws k).to r
 unfolding timed_at

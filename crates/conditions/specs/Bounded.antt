@@ -1,10 +1,8 @@
 -- No number that is no condition holds: the facts that each source hands to the trait.
 use Rattle.std.specs.Prelude.{◌≡◌, ℕ, Bool, true, cond, nat_lt, slice_index_or}
 use Rattle.std.proofs.Common.{⊎_elim, sym, ◌∙◌, ap}
-use Rattle.std.proofs.lemmas.Bool.{and_parts, cases_Bool, cond_both, false≢true}
-use Rattle.rows.specs.Numbers.{bits_of, in_row}
-use Rattle.rows.specs.Rows.{numbers}
-use Rattle.rows.specs.declared.row.Row.{Row}
+use Rattle.std.proofs.lemmas.Bool.{cases_Bool, cond_both, false≢true}
+use Rattle.rows.specs.Bounded.{row_bounded}
 use Rattle.conditions.specs.Clocks.{timed, timed_at, minute_of, windows_of, windows_in, window}
 use Rattle.conditions.specs.Limits.{is_condition}
 use Rattle.conditions.specs.Sources.{given, sensed, split_at}
@@ -13,10 +11,6 @@ use Rattle.conditions.specs.declared.window.Window.{Window}
 use Rattle.conditions.specs.declared.condition_set.ConditionSet.{ConditionSet}
 use Rattle.conditions.specs.declared.sensor_board.SensorBoard.{SensorBoard}
 use Rattle.conditions.specs.declared.week_clock.WeekClock.{WeekClock}
-
-row_bounded : (r : Row) (k : ℕ) → numbers r k ≡ true → is_condition k ≡ true
-unfolding bits_of
-row_bounded r k e = (and_parts (in_row k) _ e).0
 
 pub given_bounded : (s : ConditionSet) (k : ℕ) → given s k ≡ true → is_condition k ≡ true
 given_bounded s = row_bounded s.members

@@ -19,9 +19,9 @@ pub fn conditions_now<C: Conditions>(source: &C) -> Row
     conditions
 }
 
-// Whether every number of one set is in the other.
+// Whether every number of one set is in the other: the row's own test, by the word of the rules.
 pub fn is_within(wanted: Row, there: Row) -> bool
     ensures { result ≡ all_hold (numbers wanted) (numbers there) }
 {
-    wanted.and(there).equals(wanted)
+    wanted.is_within(there)
 }

@@ -11,6 +11,7 @@ use rows::Row;
 // The last report on each condition: those reported true hold.
 #[derive(Clone, Copy)]
 pub struct SensorBoard {
+    // A row, and no `ConditionSet`: a report changes it by the row's own calls.
     reported: Row,
 }
 

@@ -74,6 +74,8 @@ impl Conditions for WeekClock {
         ensures exact { result ≡ timed self.now condition }
         ensures words { InWindow (minute_of self.now) (windows_of self.now condition).from (windows_of self.now condition).to result }
     {
-        condition < CONDITION_COUNT && self.windows[condition as usize].contains(self.minute)
+        self.windows
+            .get(condition as usize)
+            .is_some_and(|window| window.contains(self.minute))
     }
 }

@@ -1,6 +1,8 @@
 ghost use Rattle.std.specs.Prelude.{◌≡◌};
 ghost use Rattle.conditions.specs.Windows.{in_window};
 
+use std::cmp::Ordering;
+
 // A part of the week, from one minute up to but not at another.
 // It crosses the week's end where it ends before it starts, and is empty where it ends as it starts.
 #[derive(Clone, Copy)]
@@ -13,12 +15,10 @@ impl Window {
     pub fn contains(self, minute: u32) -> bool
         ensures { result ≡ in_window minute self.from self.to }
     {
-        if self.from < self.to {
-            self.from <= minute && minute < self.to
-        } else if self.from > self.to {
-            self.from <= minute || minute < self.to
-        } else {
-            false
+        match self.from.cmp(&self.to) {
+            Ordering::Less => self.from <= minute && minute < self.to,
+            Ordering::Greater => self.from <= minute || minute < self.to,
+            Ordering::Equal => false,
         }
     }
 }

@@ -2,11 +2,8 @@
 use Rattle.std.proofs.Common.{◌≡◌, ℕ, ◌≤◌, min, Bool, true, false, cond, not, List, length, sym, refl, ◌∙◌, arith}
 use Rattle.drafting.specs.Fit.{Fit}
 use Rattle.drafting.proofs.Fits.{fits, few}
-use Rattle.forms.specs.Fields.{values}
-use Rattle.forms.proofs.Places.{length_values}
 use Rattle.kinds.specs.Columns.{takes}
 use Rattle.kinds.specs.declared.kind.Kind.{Kind}
-use Rattle.records.specs.declared.field.Field.{Field}
 use Rattle.refusals.specs.declared.answer.Answer.{Answer}
 use Rattle.refusals.specs.declared.answer.Answer.TheVariants.{Accepted, Refused}
 use Rattle.refusals.specs.declared.refusal.Refusal.{Refusal}
@@ -22,7 +19,7 @@ first_passed false g z e = absurd (let z : ◌≡◌ {A = ℕ} 0 1 = cc in omega
 min_few : (n : ℕ) → n ≤ 40 → min n 40 ≡ n
 min_few n h = omega arith
 
-pub fitting : (ls : Lists) (d : Draft) (k : Kind) (at n : ℕ) (fs : List Field) → length fs ≡ min n 40 → Accepted ≡ first_reason (record_tests ls d k at n (values fs)) Accepted → Fit ls d k (values fs)
-fitting ls d k at n fs h e =
+pub fitting : (ls : Lists) (d : Draft) (k : Kind) (at n : ℕ) (vs : List (List ℕ)) → length vs ≡ min n 40 → Accepted ≡ first_reason (record_tests ls d k at n vs) Accepted → Fit ls d k vs
+fitting ls d k at n vs h e =
     let t = first_passed (takes k n) _ _ e in
-    fits ls d k at n (values fs) (sym (length_values fs ∙ h ∙ min_few n (few k n t))) e
+    fits ls d k at n vs (sym (h ∙ min_few n (few k n t))) e

@@ -1,11 +1,11 @@
 -- A text read up to a place.
-use Rattle.std.proofs.Common.{◌≡◌, ℕ, ◌+◌, ◌-◌, ◌<◌, ◌≤◌, Bool, true, cond, List, [], ◌∷◌, ◌++◌, length, take, drop, Some, None, Ok, Option, sym, refl, ap, ◌∙◌, subst, append_assoc, append-nil, arith, length-drop, length-take, take_all}
+use Rattle.std.proofs.Common.{◌≡◌, ℕ, ◌+◌, ◌-◌, ◌≤◌, Bool, true, cond, List, [], ◌∷◌, ◌++◌, length, take, drop, sym, refl, ap, ◌∙◌, subst, append_assoc, append-nil, arith, length-drop, length-take, take_all}
 use lib.Seq.{take-append-le}
 use Rattle.records.specs.Readings.{Line, Lines, Reading}
 use Rattle.std.proofs.lemmas.List.{drop_all}
 use Rattle.std.proofs.lemmas.Bool.{cond-true}
 use Rattle.console.specs.Boxes.{Box}
-use Rattle.console.specs.Reading.{Replied, Stepped, Onward}
+use Rattle.console.specs.Reading.{Replied}
 use Rattle.console.specs.Texts.{line_reply, line_box, reply_bytes, text_bytes, text_box}
 use Rattle.console.specs.declared.reply.Reply.{Reply}
 
@@ -51,22 +51,6 @@ line_more text at next b c d bytes more before after r n s other o y k e =
 
 pub whole : (text : List ℕ) (at : ℕ) (b c : Box) (bytes : List ℕ) → length text ≤ at → (s : SoFar text at b c bytes) → Reading text s.lines
 whole text at b c bytes end s = subst (Lines (length text) text) (append-nil s.lines) (s.rest [] (drop_all at text end))
-
--- a step that gave a reply, and one that gave none
-module _ (text : List ℕ) (at next : ℕ) (b c : Box) (before after : List ℕ) where
-  pub replied : (o : Option Reply) (r : Reply) → o ≡ Some r → Stepped text at next b c before after (Ok o) → Replied text at next b c before after r
-  replied o r e s = subst (λ x. Stepped text at next b c before after (Ok x)) e s
-
-  pub ended : (o : Option Reply) → ((r : Reply) → o ≡ Some r → ⊥) → Stepped text at next b c before after (Ok o) → c ≡ b
-  ended None n s = s.2
-  ended (Some r) n s = absurd (n r refl)
-
-pub went_on : (size n at next : ℕ) (o : Option Reply) (r : Reply) → o ≡ Some r → Onward size n at next (Ok o) → (at < next) × (next ≤ n) × (r.written ≤ 12)
-went_on size n at next o r e s = subst (λ x. Onward size n at next (Ok x)) e s
-
-pub at_end : (size n at next : ℕ) (o : Option Reply) → ((r : Reply) → o ≡ Some r → ⊥) → Onward size n at next (Ok o) → n ≤ at
-at_end size n at next None k s = s
-at_end size n at next (Some r) k s = absurd (k r refl)
 
 -- a piece appended where that succeeds
 pub appended : (t : Bool) (xs ys zs : List ℕ) → t ≡ true → ys ≡ cond t (xs ++ zs) xs → ys ≡ xs ++ zs

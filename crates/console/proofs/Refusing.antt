@@ -1,6 +1,6 @@
 -- Answers that are not accepted, and openings that are refused.
 use Rattle.std.proofs.Common.{◌≡◌, false, cond, is_ok, Ok, Err, Result, sym, refl, ap}
-use Rattle.answers.specs.Said.{said}
+use Rattle.refusals.specs.Said.{said}
 use Rattle.house.specs.Views.{opening}
 use Rattle.refusals.specs.declared.answer.Answer.{Answer}
 use Rattle.refusals.specs.declared.answer.Answer.TheVariants.{Accepted}

@@ -15,6 +15,7 @@ use Rattle.refusals.specs.declared.refusal.Refusal.{Refusal}
 use Rattle.std.proofs.lemmas.Fmt.{length-decimal-le}
 use Rattle.std.proofs.lemmas.Bool.{cases_lt}
 use Rattle.values.specs.Lines.{line_of}
+use Rattle.values.proofs.Refusing.{code_small}
 use Rattle.console.specs.Boxes.{Box}
 use Rattle.console.specs.Given.{given_reply, given_box, values_of}
 use Rattle.console.specs.Recording.{record_reply, record_box}
@@ -55,9 +56,6 @@ answered text at next b kept (Ok r) h (s, n, (fs, k, goes)) =
 answered text at next b kept (Err g) h (bad, e, goes) = record { line = fault at bad next; goes = goes; reply = ap (λ x. Some (Refused x)) e; box = refl }
 
 -- no line of an answer is longer than 12 bytes
-code_small : (g : Refusal) → code_of g < 100
-code_small g = grind arith
-
 pub short : (a : Answer) → length (line_of a) ≤ 12
 short Accepted = lit≤ tt
 short Granted = lit≤ tt

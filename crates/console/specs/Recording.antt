@@ -1,6 +1,6 @@
 -- What one record is answered, and what it does to the box.
 use Rattle.std.specs.Prelude.{ℕ, cond, List, [], is_ok, Some, None, Option, slice_index_or}
-use Rattle.answers.specs.Said.{said}
+use Rattle.refusals.specs.Said.{said}
 use Rattle.drafting.specs.Effects.{names_after, draft_after}
 use Rattle.house.specs.Views.{opening}
 use Rattle.kinds.specs.Words.{kind_of_lem}
@@ -21,18 +21,7 @@ use Rattle.console.specs.Requests.{asked_of}
 
 -- the draft under another house number
 abbrev pub numbered : Draft → ℕ → Draft
-numbered d n =
-    record {
-      number = n;
-      counts = d.counts;
-      permission_count = d.permission_count;
-      permissions = d.permissions;
-      role_pair_count = d.role_pair_count;
-      role_pairs = d.role_pairs;
-      entry_count = d.entry_count;
-      entries = d.entries;
-      relations = d.relations;
-    }
+numbered d n = record d { number = n }
 
 -- the draft that a record open opens the house with
 abbrev pub offered : Box → List (List ℕ) → Draft

@@ -1,25 +1,24 @@
 ghost use Rattle.std.specs.Prelude.{◌≡◌};
-ghost use Rattle.forms.specs.Fields.{values};
+ghost use Rattle.kinds.specs.declared.kind.Kind.TheVariants.{Ask};
 ghost use Rattle.names.specs.Spellings.{spellings};
-ghost use Rattle.sheets.specs.Sheets.{TidySheet};
 ghost use Rattle.console.specs.Requests.{asked_of, role_pair_change, permission_change};
 
-use forms::flag_at;
-use kinds::{Kind, Request};
-use records::Field;
+use forms::Form;
+use kinds::Request;
 use requests::{Asked, Change};
 use rules::Spot;
 use sheets::Sheet;
 
 // What a request asks, its names as numbers; nothing of the site where it is an opening.
-pub fn asked(sheet: &Sheet<'_>, request: Request, fields: &[Field<'_>]) -> Option<Asked>
-    requires { TidySheet sheet.now }
-    ensures { result ≡ asked_of (spellings sheet.now.names) sheet.now.draft request (values fields.now) }
+// Requests are data and no closures, as the table of record names has them. The request goes along with the form, whose
+// kind has it, so that no arm is left for other kinds.
+pub fn asked(sheet: &Sheet<'_>, request: Request, form: &Form<'_, '_>) -> Option<Asked>
+    requires { form.now.kind ≡ Ask request }
+    ensures { result ≡ asked_of (spellings sheet.now.names) sheet.now.draft request form.now.values }
 {
-    let kind = Kind::Ask(request);
-    let first = sheet.number(kind, fields, 0);
-    let second = sheet.number(kind, fields, 1);
-    let third = sheet.number(kind, fields, 2);
+    let first = sheet.number(form, 0);
+    let second = sheet.number(form, 1);
+    let third = sheet.number(form, 2);
     match request {
         Request::Open => None,
         Request::Start => Some(Asked::Start {
@@ -40,13 +39,13 @@ pub fn asked(sheet: &Sheet<'_>, request: Request, fields: &[Field<'_>]) -> Optio
             device: second,
             operation: third,
         }),
-        Request::AssignRolePair => Some(asked_role_pair(sheet, Change::Assign, kind, fields)),
-        Request::RevokeRolePair => Some(asked_role_pair(sheet, Change::Revoke, kind, fields)),
-        Request::AssignPermission => Some(asked_permission(sheet, Change::Assign, kind, fields)),
-        Request::RevokePermission => Some(asked_permission(sheet, Change::Revoke, kind, fields)),
+        Request::AssignRolePair => Some(asked_role_pair(sheet, Change::Assign, form)),
+        Request::RevokeRolePair => Some(asked_role_pair(sheet, Change::Revoke, form)),
+        Request::AssignPermission => Some(asked_permission(sheet, Change::Assign, form)),
+        Request::RevokePermission => Some(asked_permission(sheet, Change::Revoke, form)),
         Request::Sense => Some(Asked::Sense {
             condition: first,
-            holds: flag_at(fields, 1),
+            holds: form.flag_at(1),
         }),
         Request::Clock => Some(Asked::Clock { minute: first }),
         Request::Window => Some(Asked::Window {
@@ -57,34 +56,32 @@ pub fn asked(sheet: &Sheet<'_>, request: Request, fields: &[Field<'_>]) -> Optio
     }
 }
 
-// A change of a role pair: user, unit, role pair, device role.
-fn asked_role_pair(sheet: &Sheet<'_>, change: Change, kind: Kind, fields: &[Field<'_>]) -> Asked
-    requires { TidySheet sheet.now }
-    ensures { result ≡ role_pair_change (spellings sheet.now.names) change kind (values fields.now) }
+// A change of a role pair: user, unit, role pair, device role. One function for both changes would be no shorter.
+fn asked_role_pair(sheet: &Sheet<'_>, change: Change, form: &Form<'_, '_>) -> Asked
+    ensures { result ≡ role_pair_change (spellings sheet.now.names) change form.now.kind form.now.values }
 {
     Asked::Change {
-        user: sheet.number(kind, fields, 0),
-        unit: sheet.number(kind, fields, 1),
+        user: sheet.number(form, 0),
+        unit: sheet.number(form, 1),
         change,
         spot: Spot::RolePair {
-            role_pair: sheet.number(kind, fields, 2),
-            device_role: sheet.number(kind, fields, 3),
+            role_pair: sheet.number(form, 2),
+            device_role: sheet.number(form, 3),
         },
     }
 }
 
 // A change of a permission: user, unit, device, operation, device role.
-fn asked_permission(sheet: &Sheet<'_>, change: Change, kind: Kind, fields: &[Field<'_>]) -> Asked
-    requires { TidySheet sheet.now }
-    ensures { result ≡ permission_change (spellings sheet.now.names) sheet.now.draft change kind (values fields.now) }
+fn asked_permission(sheet: &Sheet<'_>, change: Change, form: &Form<'_, '_>) -> Asked
+    ensures { result ≡ permission_change (spellings sheet.now.names) sheet.now.draft change form.now.kind form.now.values }
 {
     Asked::Change {
-        user: sheet.number(kind, fields, 0),
-        unit: sheet.number(kind, fields, 1),
+        user: sheet.number(form, 0),
+        unit: sheet.number(form, 1),
         change,
         spot: Spot::Permission {
-            permission: sheet.permission(kind, fields),
-            device_role: sheet.number(kind, fields, 4),
+            permission: sheet.permission(form),
+            device_role: sheet.number(form, 4),
         },
     }
 }

@@ -7,14 +7,11 @@ use Rattle.names.specs.Tables.{table_of, same_table}
 use Rattle.sheets.specs.Numbers.{Lists}
 use Rattle.std.proofs.lemmas.List.{length_push, get_or-set_same, get_or-set_other}
 use Rattle.std.proofs.lemmas.Bool.{cases_eq, eq-eqb, ne_eqb}
-use Rattle.tables.specs.Adding.{with_thing, with_permission, with_role_pair, with_entry, with_pair_in}
+use Rattle.tables.specs.Adding.{with_thing, with_role_pair}
 use Rattle.tables.specs.Drafts.{things, count}
 use Rattle.tables.specs.Indices.{thing_index}
 use Rattle.tables.specs.declared.draft.Draft.{Draft}
-use Rattle.tables.specs.declared.parts.Entry.{Entry}
-use Rattle.tables.specs.declared.parts.Permission.{Permission}
 use Rattle.tables.specs.declared.parts.RolePair.{RolePair}
-use Rattle.tables.specs.declared.relation.Relation.{Relation}
 use Rattle.tables.specs.declared.table.Thing.{Thing}
 use Rattle.tables.specs.declared.table.Thing.TheVariants.{User, Role, Device, Operation, DeviceRole, Condition, EnvironmentRole}
 
@@ -55,7 +52,7 @@ things_more d t long (Things u) =
     ∙ sym (ap (λ b. cond b (things d u + 1) (things d u)) (ne_eqb (thing_index t) (thing_index u) (λ f. e (sym f)))))
     (cases_eq (thing_index u) (thing_index t))
 things_more d t long RolePairs =
-    let n = d.role_pair_count in
+    let n = d.role_pairs.count in
     sym (ap (λ b. cond b (n + 1) n) (ne_eqb (thing_index t) 8 (λ e. omega (arith, index_below t))))
 
 pairs_more : (d : Draft) (q : RolePair) (u : NameTable) → count (with_role_pair d q) (table_of u) ≡ more RolePairs u (count d (table_of u))
@@ -73,16 +70,3 @@ module _ (ls : Lists) (d e : Draft) (counted : Counted ls d) where
 
   pub counted_pair : (ns : Lists) (q : RolePair) (v : List ℕ) → ns ≡ with_name ls RolePairs v → e ≡ with_role_pair d q → Counted ns e
   counted_pair ns q v names after = joined ns RolePairs v names (λ u. ap (λ x. count x (table_of u)) after ∙ pairs_more d q u)
-
-  -- what has no name of its own changes none of these lists
-  pub counted_permission : (p : Permission) → e ≡ with_permission d p → Counted ls e
-  counted_permission p after (Things t) = counted (Things t) ∙ sym (ap (λ x. things x t) after)
-  counted_permission p after RolePairs = counted RolePairs ∙ sym (ap (λ (x : Draft). x.role_pair_count) after)
-
-  pub counted_entry : (n : Entry) → e ≡ with_entry d n → Counted ls e
-  counted_entry n after (Things t) = counted (Things t) ∙ sym (ap (λ x. things x t) after)
-  counted_entry n after RolePairs = counted RolePairs ∙ sym (ap (λ (x : Draft). x.role_pair_count) after)
-
-  pub counted_relation : (r : Relation) (a b : ℕ) → e ≡ with_pair_in d r a b → Counted ls e
-  counted_relation r a b after (Things t) = counted (Things t) ∙ sym (ap (λ x. things x t) after)
-  counted_relation r a b after RolePairs = counted RolePairs ∙ sym (ap (λ (x : Draft). x.role_pair_count) after)

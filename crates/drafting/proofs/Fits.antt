@@ -1,5 +1,5 @@
 -- A record that fits: from the answer of the check, and what it tells of its fields.
-use Rattle.std.proofs.Common.{◌≡◌, ℕ, ◌+◌, ◌-◌, ◌<◌, ◌≤◌, Bool, true, false, cond, not, ◌||◌, List, length, is_some, sym, refl, ap, ◌∙◌, arith}
+use Rattle.std.proofs.Common.{◌≡◌, ℕ, ◌+◌, ◌-◌, ◌<◌, ◌≤◌, Bool, true, false, cond, not, ◌||◌, List, length, is_some, sym, refl, ap, ◌∙◌, subst, arith}
 use Rattle.forms.specs.Spelling.{spelt_at, all_spelt}
 use Rattle.kinds.specs.Columns.{columns_of, relating, asking, takes, permission_place_lem}
 use Rattle.kinds.specs.declared.kind.Kind.{Kind}
@@ -39,6 +39,10 @@ fits ls d k at n vs whole e =
       known = not-false (all_known ls d k vs) f.0;
       room = g.0;
     }
+
+-- the same by the kind that a record is found to have
+pub fit_as : (ls : Lists) (d : Draft) (j k : Kind) (vs : List (List ℕ)) → j ≡ k → Fit ls d k vs → Fit ls d j vs
+fit_as ls d j k vs e fit = subst (λ x. Fit ls d x vs) (sym e) fit
 
 few_related : (r : Relation) → length (relating r) ≤ 5
 few_related UserRoles = omega arith
@@ -92,7 +96,7 @@ module _ (ls : Lists) (d : Draft) (k : Kind) (vs : List (List ℕ)) (fit : Fit l
   all_there = enough k (length vs) fit.counted
 
   -- what is written at a place is written well
-  pub spelt_there : (i : ℕ) → i < length vs - 1 → spelt_at k vs i ≡ true
+  spelt_there : (i : ℕ) → i < length vs - 1 → spelt_at k vs i ≡ true
   unfolding all_spelt
   spelt_there i h = (all_decides (spelt_at k vs) (length vs - 1)).0 fit.spelt i h
 
@@ -110,3 +114,10 @@ module _ (ls : Lists) (d : Draft) (k : Kind) (vs : List (List ℕ)) (fit : Fit l
       by : (a b : Bool) → a ≡ true → (not a || b) ≡ true → b ≡ true
       by true b e f = f
       by false b e f = absurd (true≢false (sym e))
+
+-- a kind that has a column has a value there, which is written well
+pub spelt_first : (ls : Lists) (d : Draft) (j k : Kind) (vs : List (List ℕ)) → j ≡ k → Fit ls d k vs → 0 < length (columns_of j) → spelt_at j vs 0 ≡ true
+spelt_first ls d j k vs e fit some =
+    let here = fit_as ls d j k vs e fit in
+    let long = all_there ls d j vs here in
+    spelt_there ls d j vs here 0 (omega arith)

@@ -34,9 +34,6 @@ module _ (f : ℕ → ℕ) (i : ℕ) where
       let here : p ≡ i + (p - i) = omega arith in
       put ∙ ap₂ row_with before (number ∙ ap f here) ∙ ap (row_from f i) next
 
-  pub all_put : (s : Row) (m n : ℕ) → m ≡ n → s ≡ row_from f i m → s ≡ row_from f i n
-  all_put s m n e before = before ∙ ap (row_from f i) e
-
   -- where all numbers that are put in are below a limit, so are all numbers of the set
   row_below : (limit n : ℕ) → ((j : ℕ) → j < n → f (i + j) < limit) → (k : ℕ) → numbers (row_from f i n) k ≡ true → k < limit
   unfolding row_from no_numbers with_number

@@ -1,21 +1,16 @@
 -- A declared name has a number below the count of its list, and a permission that is found is declared.
 use Rattle.std.proofs.Common.{◌≡◌, ℕ, suc, ◌<◌, ◌≤◌, Bool, true, false, cond, List, [], ◌∷◌, length, is_some, Some, None, Option, sym, refl, subst, arith}
 use Rattle.forms.specs.Fields.{value_at_lem}
-use Rattle.index_set.proofs.Stored.{items_length}
 use Rattle.index_set.specs.Found.{place_of}
-use Rattle.index_set.specs.Items.{items_of}
 use Rattle.kinds.specs.Columns.{column_at}
 use Rattle.kinds.specs.declared.column.Column.{Column}
 use Rattle.kinds.specs.declared.column.Column.TheVariants.{Known}
 use Rattle.kinds.specs.declared.column.NameTable.{NameTable}
 use Rattle.kinds.specs.declared.kind.Kind.{Kind}
-use Rattle.names.specs.Spellings.{register_of, spellings, Tidy}
 use Rattle.names.specs.Tables.{table_of}
-use Rattle.names.specs.declared.names.Names.{Names}
 use Rattle.search.proofs.Finds.{first_at}
 use Rattle.sheets.specs.Judging.{known_in, known_at}
 use Rattle.sheets.specs.Numbers.{Lists, or_zero, named, number_in, number_at}
-use Rattle.std.proofs.lemmas.List.{length-map}
 use Rattle.std.proofs.lemmas.Bool.{and_from, and_parts, lt-ltb, true≢false}
 use Rattle.std.specs.Option.{option_map}
 use Rattle.std.specs.Str.{bytes_eq}
@@ -23,7 +18,6 @@ use Rattle.tables.specs.Drafts.{count, declared, is_permission_lem, permission_o
 use Rattle.tables.specs.Limits.{table_limit}
 use Rattle.tables.specs.declared.draft.Draft.{Draft}
 use Rattle.tables.specs.declared.table.Table.TheVariants.{Permissions}
-use Rattle.values.specs.Names.{spelling, same_spelling}
 
 -- a place is one of the list's
 place_below : (xs : List (List ℕ)) (v : List ℕ) (n : ℕ) → place_of bytes_eq xs v ≡ Some n → n < length xs
@@ -35,12 +29,6 @@ place_below (y ∷ ys) v n e = by (bytes_eq y v) (place_of bytes_eq ys v) (λ m 
     by true o below q = let z : 0 ≡ n = cc in omega arith
     by false None below q = absurd (let z : ◌≡◌ {A = ℕ} 0 1 = cc in omega arith)
     by false (Some m) below q = let h = below m refl in let z : suc m ≡ n = cc in omega arith
-
--- no table has more names than it can have
-pub names_within : (n : Names) → Tidy n → (t : NameTable) → length (spellings n t) ≤ table_limit (table_of t)
-names_within n tidy t =
-    let o = (tidy t).0 in
-    omega (arith, length-map (items_of (register_of n t)) spelling, items_length same_spelling (register_of n t) o, o.0, (tidy t).1)
 
 -- there are as many names in each table as items in its list, and no more than it can have
 module _ (ls : Lists) (d : Draft) (counted : (t : NameTable) → length (ls t) ≡ count d (table_of t)) (within : (t : NameTable) → length (ls t) ≤ table_limit (table_of t)) where

@@ -1,6 +1,5 @@
 pub mod Fits
 pub mod Known
-pub mod Fresh
 pub mod Counts
 pub mod Gathered
 pub mod Sides

@@ -1,9 +1,10 @@
 -- The two sides of a pair: where they stand, and that they are declared.
-use Rattle.std.proofs.Common.{◌≡◌, ℕ, ◌-◌, ◌<◌, ◌≤◌, true, List, length, is_some, Some, None, Option, sym, refl, ap, subst, arith, lit<}
+use Rattle.std.proofs.Common.{◌≡◌, ℕ, ◌-◌, ◌<◌, ◌≤◌, true, List, length, is_some, Some, None, Option, sym, refl, ap, ◌∙◌, ap₂, subst, arith, lit<}
 use Rattle.kinds.specs.Columns.{relating, column_at, permission_place_lem}
 use Rattle.kinds.specs.declared.column.Column.TheVariants.{Known}
 use Rattle.kinds.specs.declared.column.NameTable.{NameTable}
 use Rattle.kinds.specs.declared.column.NameTable.TheVariants as named_in
+use Rattle.kinds.specs.declared.kind.Kind.{Kind}
 use Rattle.kinds.specs.declared.kind.Kind.TheVariants.{Relate}
 use Rattle.names.specs.Tables.{table_of}
 use Rattle.sheets.proofs.Fields.{formed_by}
@@ -32,6 +33,12 @@ module _ (ls : Lists) (d : Draft) (r : Relation) (vs : List (List ℕ)) where
   pub left_name : (i : ℕ) → i ≡ left_place_lem r → None ≡ permission_place_lem (Relate r) → number_at ls (Relate r) vs i ≡ left_number ls d r vs
   unfolding left_number
   left_name i place e = rw (sym e) (ap (number_at ls (Relate r) vs) place)
+
+  -- of a record of that kind, found at the place p
+  pub both : (k : Kind) (a b p : ℕ) → k ≡ Relate r → a ≡ left_number ls d r vs → p ≡ right_place_lem r → b ≡ number_at ls k vs p → ◌≡◌ {A = ℕ × ℕ} (a, b) (left_number ls d r vs, right_number ls r vs)
+  both k a b p e left place right =
+      let second : b ≡ right_number ls r vs = right ∙ ap₂ (λ j q. number_at ls j vs q) e place in
+      λ i. (left i, second i)
 
 -- the name of table t stands at a place that each record of the relation r has
 abbrev Stands : Relation → ℕ → Table → Type 0

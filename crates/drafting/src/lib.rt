@@ -4,7 +4,6 @@
 
 mod applying;
 mod declaring;
-mod gathering;
 mod listing;
 mod relating;
 

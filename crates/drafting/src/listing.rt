@@ -1,58 +1,48 @@
-// Records that add a permission, a role pair or an entry.
+// What a record adds to a list: a permission, a role pair or an entry. Functions and no methods: sheets and forms are types
+// of other crates.
 ghost use Rattle.std.specs.Prelude.{◌≡◌};
-ghost use Rattle.forms.specs.Fields.{values};
-ghost use Rattle.kinds.specs.declared.kind.Kind.TheVariants as kind;
 ghost use Rattle.names.specs.Spellings.{spellings};
-ghost use Rattle.sheets.specs.Sheets.{TidySheet};
-ghost use Rattle.drafting.specs.Effects.{names_after, draft_after};
-ghost use Rattle.drafting.specs.Fit.{Fit};
+ghost use Rattle.drafting.specs.Effects.{set_from_lem, permission_said, role_pair_said, entry_said};
 
-use crate::declaring::new_name;
-use crate::gathering::set_from;
-use kinds::{Kind, NameTable};
-use records::Field;
+use forms::Form;
 use sheets::Sheet;
+use stores::Row;
 use tables::{Entry, Permission, RolePair};
 
-pub(crate) fn permit(sheet: &mut Sheet<'_>, fields: &[Field<'_>])
-    requires tidy { TidySheet sheet.old }
-    requires fit { Fit (spellings sheet.old.names) sheet.old.draft kind.Permission (values fields.now) }
-    ensures tidy { TidySheet sheet.new }
-    ensures names { spellings sheet.new.names ≡ names_after (spellings sheet.old.names) kind.Permission (values fields.now) }
-    ensures draft { sheet.new.draft ≡ draft_after (spellings sheet.old.names) sheet.old.draft kind.Permission (values fields.now) }
+// The set of the numbers that the fields from a place on say.
+fn set_from(sheet: &Sheet<'_>, form: &Form<'_, '_>, from: usize) -> Row
+    ensures { result ≡ set_from_lem (spellings sheet.now.names) form.now.kind form.now.values from }
 {
-    let device = sheet.number(Kind::Permission, fields, 0);
-    let operation = sheet.number(Kind::Permission, fields, 1);
-    let _ = sheet.draft.add_permission(Permission { device, operation });
+    let mut row = Row::new();
+    for place in from..form.places() {
+        row.insert(sheet.number(form, place));
+    }
+    row
 }
 
-pub(crate) fn pair(sheet: &mut Sheet<'_>, fields: &[Field<'_>])
-    requires tidy { TidySheet sheet.old }
-    requires fit { Fit (spellings sheet.old.names) sheet.old.draft kind.RolePair (values fields.now) }
-    ensures tidy { TidySheet sheet.new }
-    ensures names { spellings sheet.new.names ≡ names_after (spellings sheet.old.names) kind.RolePair (values fields.now) }
-    ensures draft { sheet.new.draft ≡ draft_after (spellings sheet.old.names) sheet.old.draft kind.RolePair (values fields.now) }
+pub(crate) fn permission(sheet: &Sheet<'_>, form: &Form<'_, '_>) -> Permission
+    ensures { result ≡ permission_said (spellings sheet.now.names) form.now.kind form.now.values }
 {
-    let role = sheet.number(Kind::RolePair, fields, 1);
-    let environment_roles = set_from(sheet, Kind::RolePair, fields, 2);
-    sheet.names.declare(NameTable::RolePairs, new_name(fields));
-    let _ = sheet.draft.add_role_pair(RolePair {
-        role,
-        environment_roles,
-    });
+    Permission {
+        device: sheet.number(form, 0),
+        operation: sheet.number(form, 1),
+    }
 }
 
-pub(crate) fn enter(sheet: &mut Sheet<'_>, fields: &[Field<'_>])
-    requires tidy { TidySheet sheet.old }
-    requires fit { Fit (spellings sheet.old.names) sheet.old.draft kind.Entry (values fields.now) }
-    ensures tidy { TidySheet sheet.new }
-    ensures names { spellings sheet.new.names ≡ names_after (spellings sheet.old.names) kind.Entry (values fields.now) }
-    ensures draft { sheet.new.draft ≡ draft_after (spellings sheet.old.names) sheet.old.draft kind.Entry (values fields.now) }
+pub(crate) fn role_pair(sheet: &Sheet<'_>, form: &Form<'_, '_>) -> RolePair
+    ensures { result ≡ role_pair_said (spellings sheet.now.names) form.now.kind form.now.values }
 {
-    let environment_role = sheet.number(Kind::Entry, fields, 0);
-    let conditions = set_from(sheet, Kind::Entry, fields, 1);
-    let _ = sheet.draft.add_entry(Entry {
-        environment_role,
-        conditions,
-    });
+    RolePair {
+        role: sheet.number(form, 1),
+        environment_roles: set_from(sheet, form, 2),
+    }
+}
+
+pub(crate) fn entry(sheet: &Sheet<'_>, form: &Form<'_, '_>) -> Entry
+    ensures { result ≡ entry_said (spellings sheet.now.names) form.now.kind form.now.values }
+{
+    Entry {
+        environment_role: sheet.number(form, 0),
+        conditions: set_from(sheet, form, 1),
+    }
 }

@@ -1,65 +1,36 @@
-// Records that put a pair in a relation.
+// The pair that a record puts in a relation.
 ghost use Rattle.std.specs.Prelude.{◌≡◌};
-ghost use Rattle.forms.specs.Fields.{values};
 ghost use Rattle.kinds.specs.declared.kind.Kind.TheVariants.{Relate};
 ghost use Rattle.names.specs.Spellings.{spellings};
-ghost use Rattle.sheets.specs.Sheets.{TidySheet};
-ghost use Rattle.drafting.specs.Effects.{names_after, draft_after};
-ghost use Rattle.drafting.specs.Fit.{Fit};
-ghost use Rattle.drafting.specs.Pairing.{left_place_lem, right_place_lem, left_number};
+ghost use Rattle.drafting.specs.Pairing.{left_place_lem, right_place_lem, left_number, right_number};
 
-use kinds::Kind;
-use records::Field;
+use forms::Form;
 use sheets::Sheet;
 use tables::Relation;
 
-// Where the left side of the pair stands in the record: its name, or the device of its permission.
-fn left_place(relation: Relation) -> usize
-    ensures { result ≡ left_place_lem relation }
+// Where the two sides stand in the record: the left one's name, or the device of its permission, and the right one's name.
+fn places(relation: Relation) -> (usize, usize)
+    ensures { result ≡ (left_place_lem relation, right_place_lem relation) }
 {
     match relation {
         Relation::RoleTaskRolePairs
         | Relation::RoleTaskDeviceRoles
         | Relation::PermissionTaskPermissions
-        | Relation::PermissionTaskDeviceRoles => 1,
-        _ => 0,
+        | Relation::PermissionTaskDeviceRoles => (1, 0),
+        Relation::PermissionAssignment | Relation::Bars => (0, 2),
+        _ => (0, 1),
     }
 }
 
-// Where the name of the right side stands.
-fn right_place(relation: Relation) -> usize
-    ensures { result ≡ right_place_lem relation }
+// The left number and the right one. The relation goes along with the form, whose kind has it.
+pub(crate) fn sides(sheet: &Sheet<'_>, relation: Relation, form: &Form<'_, '_>) -> (u32, u32)
+    requires { form.now.kind ≡ Relate relation }
+    ensures { result ≡ (left_number (spellings sheet.now.names) sheet.now.draft relation form.now.values, right_number (spellings sheet.now.names) relation form.now.values) }
 {
-    match relation {
-        Relation::RoleTaskRolePairs
-        | Relation::RoleTaskDeviceRoles
-        | Relation::PermissionTaskPermissions
-        | Relation::PermissionTaskDeviceRoles => 0,
-        Relation::PermissionAssignment | Relation::Bars => 2,
-        _ => 1,
+    let (left, right) = places(relation);
+    let right = sheet.number(form, right);
+    match form.kind().permission_place() {
+        Some(_) => (sheet.permission(form), right),
+        None => (sheet.number(form, left), right),
     }
-}
-
-// The left number of the pair.
-fn left(sheet: &Sheet<'_>, relation: Relation, fields: &[Field<'_>]) -> u32
-    requires { TidySheet sheet.now }
-    ensures { result ≡ left_number (spellings sheet.now.names) sheet.now.draft relation (values fields.now) }
-{
-    let kind = Kind::Relate(relation);
-    match kind.permission_place() {
-        Some(_) => sheet.permission(kind, fields),
-        None => sheet.number(kind, fields, left_place(relation)),
-    }
-}
-
-pub(crate) fn relate(sheet: &mut Sheet<'_>, relation: Relation, fields: &[Field<'_>])
-    requires tidy { TidySheet sheet.old }
-    requires fit { Fit (spellings sheet.old.names) sheet.old.draft (Relate relation) (values fields.now) }
-    ensures tidy { TidySheet sheet.new }
-    ensures names { spellings sheet.new.names ≡ names_after (spellings sheet.old.names) (Relate relation) (values fields.now) }
-    ensures draft { sheet.new.draft ≡ draft_after (spellings sheet.old.names) sheet.old.draft (Relate relation) (values fields.now) }
-{
-    let left = left(sheet, relation, fields);
-    let right = sheet.number(Kind::Relate(relation), fields, right_place(relation));
-    let _ = sheet.draft.relate(relation, left, right);
 }

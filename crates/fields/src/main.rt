@@ -4,38 +4,39 @@
 
 use records::{Field, KEPT_FIELDS, Record, Records, TEXT_LIMIT};
 use refusals::Refusal;
-use std::io;
 use std::io::Read;
+use std::{fmt, io};
 
-// Prints bytes as text on one line; those that are no printable ASCII are escaped.
-fn show_value(rt: &HostRuntime, value: &[u8]) -> io::Result<()> {
-    for b in value {
-        match *b {
-            b'\r' => print!(rt; "\\r")?,
-            b'\n' => print!(rt; "\\n")?,
-            b'\\' => print!(rt; "\\\\")?,
-            b' '..=b'~' => print!(rt; "{}", char::from(*b))?,
-            _ => print!(rt; "\\x{:02x}", *b)?,
+// Bytes as text on one line; those that are no printable ASCII are escaped.
+#[derive(Clone, Copy)]
+struct Escaped<'a>(&'a [u8]);
+
+impl fmt::Display for Escaped<'_> {
+    fn fmt<W: fmt::Write>(&self, f: &mut fmt::Formatter<W>) -> fmt::Result {
+        for &byte in self.0 {
+            match byte {
+                b'\r' => write!(f, "\\r")?,
+                b'\n' => write!(f, "\\n")?,
+                b'\\' => write!(f, "\\\\")?,
+                b' '..=b'~' => write!(f, "{}", char::from(byte))?,
+                _ => write!(f, "\\x{byte:02x}")?,
+            }
         }
+        Ok(())
     }
-    println!(rt; "")
 }
 
-fn show_field(rt: &HostRuntime, field: Field<'_>) -> io::Result<()> {
-    match field {
-        Field::Bare { at, .. } => print!(rt; "  {at} bare: ")?,
-        Field::Quoted { at, .. } => print!(rt; "  {at} quoted: ")?,
-    }
-    show_value(rt, field.value())
-}
-
-fn show_record(rt: &HostRuntime, record: Record, kept: &[Field<'_>]) -> io::Result<()> {
+fn show_record(rt: &impl Print, record: Record, kept: &[Field<'_>]) -> io::Result<()> {
     println!(rt;
         "{} record, number of fields: {}",
         record.start, record.count
     )?;
     for field in kept {
-        show_field(rt, *field)?;
+        let kind = match field {
+            Field::Bare { .. } => "bare",
+            Field::Quoted { .. } => "quoted",
+        };
+        println!(rt; "  {} {kind}: {}", field.place(), Escaped(field.value()))?;
     }
     if record.count > kept.len() {
         println!(rt; "  the others are not kept")?;
@@ -43,7 +44,7 @@ fn show_record(rt: &HostRuntime, record: Record, kept: &[Field<'_>]) -> io::Resu
     Ok(())
 }
 
-fn show_refusal(rt: &HostRuntime, refusal: Refusal) -> io::Result<()> {
+fn show_refusal(rt: &impl Print, refusal: Refusal) -> io::Result<()> {
     match refusal {
         Refusal::MalformedRecord { at } => println!(rt; "{at} fault"),
         Refusal::TextTooLong => println!(rt; "the text has more than {TEXT_LIMIT} bytes"),
@@ -51,15 +52,16 @@ fn show_refusal(rt: &HostRuntime, refusal: Refusal) -> io::Result<()> {
     }
 }
 
-fn show_text(rt: &HostRuntime, text: &[u8]) -> io::Result<()> {
+fn show_text(rt: &impl Print, text: &[u8]) -> io::Result<()> {
     let mut records = match Records::new(text) {
         Ok(records) => records,
         Err(refusal) => return show_refusal(rt, refusal),
     };
     let mut fields = [Field::Bare { part: text, at: 0 }; KEPT_FIELDS];
+    // Each record goes into the lent fields, which no iterator could hand out again.
     while let Some(line) = records.next(&mut fields) {
         match line {
-            Ok(record) => show_record(rt, record, &fields[0..record.kept()])?,
+            Ok(record) => show_record(rt, record, &fields[..record.kept()])?,
             Err(refusal) => show_refusal(rt, refusal)?,
         }
     }

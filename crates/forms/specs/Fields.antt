@@ -2,8 +2,14 @@
 use Rattle.std.specs.Prelude.{ℕ, ◌+◌, Bool, false, List, [], map, Some, None, Option, slice_index_or}
 use Rattle.records.specs.declared.field.Field.{Field}
 use Rattle.records.specs.Views.{value_of}
+use Rattle.kinds.specs.declared.kind.Kind.{Kind}
 use Rattle.values.specs.Numbers.{number_of}
 use Rattle.values.specs.Flags.{flag_of}
+
+-- a record of a known kind: what it says, in the values of the fields that are kept, its name first
+pub record Content : Type 0 where
+  pub kind : Kind
+  pub values : List (List ℕ)
 
 -- the values of the fields, bare and quoted alike
 unfoldable pub values : List Field → List (List ℕ)

@@ -2,8 +2,8 @@
 
 #![tactic(auto)]
 
-mod reading;
+mod form;
 mod spelling;
 
-pub use reading::{flag_at, number_at, value_at};
-pub use spelling::{are_spelt, is_spelt};
+pub use form::Form;
+pub use spelling::is_spelt;

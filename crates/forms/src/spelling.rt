@@ -1,11 +1,7 @@
-// Whether fields are written as their columns want.
 ghost use Rattle.std.specs.Prelude.{◌≡◌};
-ghost use Rattle.forms.specs.Fields.{values};
-ghost use Rattle.forms.specs.Spelling.{spelt, all_spelt};
+ghost use Rattle.forms.specs.Spelling.{spelt};
 
-use crate::reading::value_at;
-use kinds::{Column, Kind};
-use records::Field;
+use kinds::Column;
 use values::{Name, flag, number};
 
 // Whether a value is written as a column wants: a name, a number or a flag.
@@ -17,16 +13,4 @@ pub fn is_spelt(column: Column, value: &[u8]) -> bool
         Column::Number => number(value).is_some(),
         Column::Flag => flag(value).is_some(),
     }
-}
-
-// Whether every field behind the record name is written as its column wants.
-pub fn are_spelt(kind: Kind, fields: &[Field<'_>]) -> bool
-    ensures { result ≡ all_spelt kind (values fields.now) }
-{
-    for place in 0..fields.len().saturating_sub(1) {
-        if !is_spelt(kind.column(place), value_at(fields, place)) {
-            return false;
-        }
-    }
-    true
 }

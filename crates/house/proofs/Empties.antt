@@ -1,5 +1,5 @@
 -- A draft with nothing in it is lawful, and what a house holds right after an opening.
-use Rattle.std.proofs.Common.{◌≡◌, ℕ, Bool, true, not, ltb, is_some, Some, None, Ok, Err, Option, sym, refl, ap, ◌∙◌, arith}
+use Rattle.std.proofs.Common.{◌≡◌, ℕ, Bool, true, false, not, ltb, is_some, Some, None, Ok, Err, Option, sym, refl, ap, ◌∙◌, arith}
 use mathlib.Core.Path.{fun_ext}
 use Rattle.lawful.specs.Checking.{all_rules, first_broken_lem, refusal_of, answer_of, is_lawful}
 use Rattle.lawful.specs.Keeping.{Declared, In, Keeps, Lawful}
@@ -8,6 +8,7 @@ use Rattle.lawful.specs.declared.rule.Rule.TheVariants.{WithinLimit, Permissions
 use Rattle.lawful.proofs.Answering.{says, lawful_test}
 use Rattle.lawful.proofs.Bounds.{refute}
 use Rattle.rules.specs.Reaching.{reaches_barred_lem}
+use Rattle.rules.specs.Spots.{Pairs}
 use Rattle.rules.specs.States.{State, opening_pairs, nobody, none_active, opened}
 use Rattle.rules.specs.declared.call.Spot.{Spot}
 use Rattle.rules.specs.declared.call.Spot.TheVariants.{RolePair, Permission}
@@ -21,7 +22,7 @@ use Rattle.tables.specs.declared.relation.Relation.{Relation}
 use Rattle.tables.specs.declared.relation.Relation.TheVariants.{UserRoles, PermissionAssignment, RolePairAssignment}
 use Rattle.tables.specs.declared.table.Table.{Table}
 use Rattle.tables.specs.declared.table.Table.TheVariants.{Permissions, RolePairs, Entries}
-use Rattle.house.specs.Views.{spots, Sound}
+use Rattle.assignments.specs.Assigned.{nothing_assigned}
 
 -- a draft whose rules are all kept passes the test
 pub lawful_back : (d : Draft) → Lawful d → is_lawful d ≡ true
@@ -59,25 +60,26 @@ module _ (d : Draft) (e : Empty d) where
   pub empty_lawful : is_lawful d ≡ true
   empty_lawful = lawful_back d empty_keeps
 
+  -- it assigns nothing
+  nothing_there : (x : Spot) → nothing_assigned x ≡ opening_pairs d x
+  unfolding nothing_assigned opening_pairs no_pairs
+  nothing_there (RolePair q m) = sym (ap (λ f. f q m) (e.2 RolePairAssignment))
+  nothing_there (Permission p m) = sym (ap (λ f. f p m) (e.2 PermissionAssignment))
+
+  pub nothing_opens : nothing_assigned ≡ opening_pairs d
+  nothing_opens = fun_ext nothing_there
+
 -- no role reaches a barred permission right after an opening
-pub opened_sound : (d : Draft) → is_lawful d ≡ true → Sound d (opened d)
+pub opening_sound : (d : Draft) → is_lawful d ≡ true → reaches_barred_lem d (opening_pairs d) ≡ false
 unfolding opening_pairs
-opened_sound d h =
+opening_sound d h =
     refute _ (λ r. let w = (reaches_decides d (opening_pairs d)).0 r in lawful_test d h NothingBarred w.0 w.1 w.2 w.5 w.6 w.7)
 
-pub sound_opened : (d e : Draft) (s : State) → is_lawful d ≡ true → e ≡ d → s ≡ opened d → Sound e s
-sound_opened d e s h p q = (λ i. reaches_barred_lem (p i) (q i).pairs) ∙ opened_sound d h
-
--- the pairs of two sets that hold what the draft assigns
-spots_opened : (d : Draft) (left right : ℕ → ℕ → Bool) → left ≡ related d RolePairAssignment → right ≡ related d PermissionAssignment → (x : Spot) → spots left right x ≡ opening_pairs d x
-unfolding opening_pairs
-spots_opened d left right a b (RolePair q m) = ap (λ s. s q m) a
-spots_opened d left right a b (Permission p m) = ap (λ s. s p m) b
+pub loaded_sound : (d : Draft) (pairs : Pairs) → is_lawful d ≡ true → pairs ≡ opening_pairs d → reaches_barred_lem d pairs ≡ false
+loaded_sound d pairs h e = ap (reaches_barred_lem d) e ∙ opening_sound d h
 
 -- the state of a house that holds what the draft says
-pub opens : (d : Draft) (left right held : ℕ → ℕ → Bool) (lease session : ℕ → Option ℕ) (active : ℕ → ℕ → Bool)
-    → left ≡ related d RolePairAssignment → right ≡ related d PermissionAssignment → held ≡ related d UserRoles → lease ≡ nobody → session ≡ nobody → active ≡ none_active
-    → ◌≡◌ {A = State} (record { pairs = spots left right; held = held; lease = lease; session = session; active = active }) (opened d)
-opens d left right held lease session active a b c e f g =
-    let p = fun_ext (spots_opened d left right a b) in
-    λ i. record { pairs = p i; held = c i; lease = e i; session = f i; active = g i }
+pub opens : (d : Draft) (pairs : Pairs) (held : ℕ → ℕ → Bool) (lease session : ℕ → Option ℕ) (active : ℕ → ℕ → Bool)
+    → pairs ≡ opening_pairs d → held ≡ related d UserRoles → lease ≡ nobody → session ≡ nobody → active ≡ none_active
+    → ◌≡◌ {A = State} (record { pairs = pairs; held = held; lease = lease; session = session; active = active }) (opened d)
+opens d pairs held lease session active p c e f g = λ i. record { pairs = p i; held = c i; lease = e i; session = f i; active = g i }

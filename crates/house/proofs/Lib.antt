@@ -1,5 +1,2 @@
 pub mod Empties
-pub mod Holders
-pub mod Putting
 pub mod Rules
-pub mod Gathering

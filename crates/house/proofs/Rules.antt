@@ -1,34 +1,34 @@
 -- The calls of a house against the rules.
-use Rattle.std.proofs.Common.{◌≡◌, ℕ, ◌<◌, Bool, true, false, cond, not, ◌||◌, is_ok, Some, Ok, Err, Result, sym, refl, ap, ◌∙◌, arith}
+use Rattle.std.proofs.Common.{◌≡◌, ℕ, Bool, true, false, cond, not, is_ok, Some, Ok, Err, Result, sym, refl, ap, ◌∙◌}
+use Rattle.refusals.specs.Said.{said}
+use Rattle.assignments.specs.Paths.{way_to}
 use Rattle.conditions.specs.Active.{active}
 use Rattle.lawful.proofs.Bounds.{refute}
 use Rattle.refusals.specs.declared.answer.Answer.{Answer}
-use Rattle.refusals.specs.declared.answer.Answer.TheVariants.{Accepted, Granted, Denied, Refused}
+use Rattle.refusals.specs.declared.answer.Answer.TheVariants.{Accepted, Refused}
 use Rattle.refusals.specs.declared.refusal.Refusal.{Refusal}
-use Rattle.refusals.specs.declared.refusal.Refusal.TheVariants.{InvalidLease, NoSuchNumber, ProhibitedPair, OutsideTask, AlreadyAssigned, WouldReachBarredPermission, SessionNotLive, NoSuchPermission}
+use Rattle.refusals.specs.declared.refusal.Refusal.TheVariants.{InvalidLease, NoSuchNumber, ProhibitedPair, OutsideTask, AlreadyAssigned, NotAssigned, WouldReachBarredPermission, SessionNotLive, NoSuchPermission}
 use Rattle.rows.specs.Rows.{numbers}
 use Rattle.rows.specs.declared.row.Row.{Row}
 use Rattle.rules.specs.Access.{granted, path_if}
 use Rattle.rules.specs.Judging.{valid, judge, effect, commit, after}
 use Rattle.rules.specs.Reaching.{reaches_barred_lem, column_barred}
-use Rattle.rules.specs.Spots.{known, prohibited, in_task, same_spot, without_spot}
+use Rattle.rules.specs.Spots.{Pairs, known, prohibited, in_task, same_spot, with_spot, without_spot}
 use Rattle.rules.specs.States.{State}
 use Rattle.rules.specs.declared.call.Call.TheVariants.{Assign, Revoke}
 use Rattle.rules.specs.declared.call.LeaseNumbers.{LeaseNumbers}
 use Rattle.rules.specs.declared.call.Spot.{Spot}
 use Rattle.rules.specs.declared.call.Spot.TheVariants.{RolePair, Permission}
 use Rattle.rules.proofs.Reaching.{reaches_decides, column_tells}
-use Rattle.search.specs.Below.{some_below}
-use Rattle.search.proofs.Somes.{some_at}
-use Rattle.std.proofs.lemmas.Bool.{and_parts, or_right, both_ways}
+use Rattle.std.proofs.lemmas.Bool.{and_parts, both_ways}
 use Rattle.tables.specs.Drafts.{permission_of, entries_of}
 use Rattle.tables.specs.declared.draft.Draft.{Draft}
 use Rattle.house.specs.Changing.{and_then, change_reasons, assigning, after_assigning, revoking, after_revoking}
-use Rattle.house.specs.Paths.{way_to}
-use Rattle.house.specs.Views.{said, Sound}
+use Rattle.house.specs.Views.{with_pairs}
 
-pub or_some_answers : (a : Bool) (f : ℕ → Bool) (n k : ℕ) → k < n → f k ≡ true → true ≡ (a || some_below f n)
-or_some_answers a f n k h e = sym (or_right a (some_below f n) (some_at f n k h e))
+-- no role reaches a permission that is barred to it
+abbrev pub Sound : Draft → State → Type 0
+Sound d s = reaches_barred_lem d s.pairs ≡ false
 
 -- the reasons of all changes, and then an answer
 abbrev chain : Bool → Bool → Bool → Bool → Answer → Answer
@@ -45,18 +45,6 @@ chain_then true true false true z = refl
 chain_known : (a b c e : Bool) (y z : Answer) → (b ≡ true → y ≡ z) → chain a b c e y ≡ chain a b c e z
 chain_known a false c e y z h = refl
 chain_known a true c e y z h = ap (chain a true c e) (h refl)
-
-chain_accepted : (a b c e : Bool) (z : Answer) → chain a b c e z ≡ Accepted → z ≡ Accepted
-chain_accepted false b c e z h = absurd (let z : ◌≡◌ {A = ℕ} 0 1 = cc in omega arith)
-chain_accepted true false c e z h = absurd (let z : ◌≡◌ {A = ℕ} 0 1 = cc in omega arith)
-chain_accepted true true true e z h = absurd (let z : ◌≡◌ {A = ℕ} 0 1 = cc in omega arith)
-chain_accepted true true false false z h = absurd (let z : ◌≡◌ {A = ℕ} 0 1 = cc in omega arith)
-chain_accepted true true false true z h = h
-
-ends : (a b : Bool) → cond a (Refused AlreadyAssigned) (cond b (Refused WouldReachBarredPermission) Accepted) ≡ Accepted → b ≡ false
-ends true b h = absurd (let z : ◌≡◌ {A = ℕ} 0 1 = cc in omega arith)
-ends false true h = absurd (let z : ◌≡◌ {A = ℕ} 0 1 = cc in omega arith)
-ends false false h = refl
 
 module _ (d : Draft) (s : State) (k : LeaseNumbers) (x : Spot) where
   -- where no role reaches a barred permission, one device role tells
@@ -75,31 +63,40 @@ module _ (d : Draft) (s : State) (k : LeaseNumbers) (x : Spot) where
   pub after_revoking_is : after_revoking d s k x ≡ after d s (Revoke k x)
   after_revoking_is = ap (λ a. commit a s (effect s (Revoke k x))) revoking_is
 
-  -- an assignment that the rules accept reaches no barred permission
-  sound_assign : Sound d s → (a : Answer) → judge d s (Assign k x) ≡ a → Sound d (commit a s (effect s (Assign k x)))
-  sound_assign h Accepted e = ends (s.pairs x) _ (chain_accepted (valid d s k) (known d x) (prohibited d x) (in_task d k.unit x) _ e)
-  sound_assign h Granted e = h
-  sound_assign h Denied e = h
-  sound_assign h (Refused g) e = h
-
-  pub assigned_sound : Sound d s → Sound d (after d s (Assign k x))
-  assigned_sound h = sound_assign h (judge d s (Assign k x)) refl
-
   fewer : (y : Spot) → without_spot s.pairs x y ≡ true → s.pairs y ≡ true
   unfolding without_spot
   fewer y h = (and_parts (not (same_spot x y)) (s.pairs y) h).1
 
-  -- fewer pairs reach no more
-  sound_revoke : Sound d s → (a : Answer) → Sound d (commit a s (effect s (Revoke k x)))
-  sound_revoke h Accepted = refute _ (λ r.
+  -- one pair more reaches no barred permission where its column shows none, and one less never does
+  pub insert_sound : (p : Pairs) → Sound d s → known d x ≡ true → column_barred d s.pairs x ≡ false → p ≡ with_spot s.pairs x → reaches_barred_lem d p ≡ false
+  insert_sound p h b c e = ap (reaches_barred_lem d) e ∙ column_tells d s.pairs x h b ∙ c
+
+  pub remove_sound : (p : Pairs) → Sound d s → p ≡ without_spot s.pairs x → reaches_barred_lem d p ≡ false
+  remove_sound p h e = ap (reaches_barred_lem d) e ∙ refute _ (λ r.
       let w = (reaches_decides d (without_spot s.pairs x)).0 r in
       both_ways _ h ((reaches_decides d s.pairs).1 (w.0, w.1, w.2, w.3, w.4, fewer (RolePair w.0 w.1) w.5, fewer (Permission w.2 w.1) w.6, w.7)))
-  sound_revoke h Granted = h
-  sound_revoke h Denied = h
-  sound_revoke h (Refused g) = h
 
-  pub revoked_sound : Sound d s → Sound d (after d s (Revoke k x))
-  revoked_sound h = sound_revoke h (judge d s (Revoke k x))
+  -- what holds by the column alone holds by the rules
+  pub assign_by_rules : Sound d s → (r : Result Unit Refusal) (t : State) → said r ≡ assigning d s k x → t ≡ after_assigning d s k x
+      → (said r ≡ judge d s (Assign k x)) × (t ≡ after d s (Assign k x))
+  assign_by_rules h r t a b = (a ∙ assigning_is h, b ∙ after_assigning_is h)
+
+  pub revoke_by_rules : (r : Result Unit Refusal) (t : State) → said r ≡ revoking d s k x → t ≡ after_revoking d s k x
+      → (said r ≡ judge d s (Revoke k x)) × (t ≡ after d s (Revoke k x))
+  revoke_by_rules r t a b = (a ∙ revoking_is, b ∙ after_revoking_is)
+
+  -- a refusal leaves the state, and a change that is accepted makes its effect
+  pub unassigned : (g : Refusal) → Refused g ≡ assigning d s k x → s ≡ after_assigning d s k x
+  unassigned g a = ap (λ b. commit b s (effect s (Assign k x))) a
+
+  pub unrevoked : (g : Refusal) → Refused g ≡ revoking d s k x → s ≡ after_revoking d s k x
+  unrevoked g a = ap (λ b. commit b s (effect s (Revoke k x))) a
+
+  pub assigned_left : (p : Pairs) → p ≡ with_spot s.pairs x → Accepted ≡ assigning d s k x → with_pairs s p ≡ after_assigning d s k x
+  assigned_left p e a = ap (with_pairs s) e ∙ ap (λ b. commit b s (effect s (Assign k x))) a
+
+  pub revoked_left : (p : Pairs) → p ≡ without_spot s.pairs x → Accepted ≡ revoking d s k x → with_pairs s p ≡ after_revoking d s k x
+  revoked_left p e a = ap (with_pairs s) e ∙ ap (λ b. commit b s (effect s (Revoke k x))) a
 
 -- a refusal by the reasons of all changes stands
 pub stopped : (r : Result Unit Refusal) (a z : Answer) → is_ok r ≡ false → said r ≡ a → said r ≡ and_then a z
@@ -117,17 +114,22 @@ module _ (d : Draft) (s : State) (k : LeaseNumbers) (x : Spot) (e : Accepted ≡
   pub would_reach : s.pairs x ≡ false → column_barred d s.pairs x ≡ true → Refused WouldReachBarredPermission ≡ assigning d s k x
   would_reach p q = λ i. and_then (e i) (cond (sym p i) (Refused AlreadyAssigned) (cond (sym q i) (Refused WouldReachBarredPermission) Accepted))
 
--- soundness goes along equal drafts and states
-pub sound_along : (d e : Draft) (s t : State) → e ≡ d → t ≡ s → Sound d s → Sound e t
-sound_along d e s t p q h = (λ i. reaches_barred_lem (p i) (q i).pairs) ∙ h
+  pub accepted : s.pairs x ≡ false → column_barred d s.pairs x ≡ false → Accepted ≡ assigning d s k x
+  accepted p q = λ i. and_then (e i) (cond (sym p i) (Refused AlreadyAssigned) (cond (sym q i) (Refused WouldReachBarredPermission) Accepted))
+
+  pub not_there : s.pairs x ≡ false → Refused NotAssigned ≡ revoking d s k x
+  not_there p = λ i. and_then (e i) (cond (not (sym p i)) (Refused NotAssigned) Accepted)
+
+  pub revoked : s.pairs x ≡ true → Accepted ≡ revoking d s k x
+  revoked p = λ i. and_then (e i) (cond (not (sym p i)) (Refused NotAssigned) Accepted)
 
 -- the paths under the conditions of a source
 pub granted_is : (d : Draft) (s : State) (k device operation p : ℕ) (conditions : Row) (holding roles : ℕ → Bool)
     → Some p ≡ permission_of d device operation → numbers conditions ≡ holding → roles ≡ active holding (entries_of d)
-    → way_to d s roles k p ≡ granted d s k device operation conditions
+    → way_to d s.pairs (s.active k) roles p ≡ granted d s k device operation conditions
 unfolding granted
 granted_is d s k device operation p conditions holding roles a b c =
-    ap (λ r. way_to d s r k p) (c ∙ ap (λ h. active h (entries_of d)) (sym b)) ∙ ap (path_if d s conditions k) a
+    ap (λ r. way_to d s.pairs (s.active k) r p) (c ∙ ap (λ h. active h (entries_of d)) (sym b)) ∙ ap (path_if d s conditions k) a
 
 -- an access check that meets no reason answers by its paths
 pub unrefused : (a b c : Bool) (y z : Answer) → a ≡ true → b ≡ true → c ≡ true → y ≡ z

@@ -1,65 +1,19 @@
 // The check of an access.
-ghost use Rattle.std.specs.Prelude.{◌≡◌, ◌<◌, true, false};
+ghost use Rattle.std.specs.Prelude.{◌≡◌};
+ghost use Rattle.refusals.specs.Said.{told};
 ghost use Rattle.rows.specs.Rows.{numbers};
 ghost use Rattle.rows.specs.declared.row.Row.{Row as Set};
-ghost use Rattle.rules.specs.Judging.{judge};
-ghost use Rattle.house.specs.Paths.{ready_under, way_to};
-ghost use Rattle.house.specs.Views.{draft_of, state_of, told};
+ghost use Rattle.house.specs.Views.{answer_of};
 
 use crate::house::House;
-use crate::tests::is_within;
-use conditions::{CONDITION_COUNT, Conditions, active_roles};
+use conditions::{Conditions, active_roles};
 use house_parts::SESSIONS;
 use refusals::Refusal;
-use rows::Row;
 use rules::Call;
-use stores::{PairSet, RIGHTS};
-use tables::{LIST_LIMIT, Table, Thing};
-
-// The conditions that hold now, as a set.
-pub fn conditions_now<C: Conditions>(source: &C) -> Row
-    ensures { numbers result ≡ C.holding source.now }
-{
-    let mut conditions = Row::new();
-    for condition in 0..CONDITION_COUNT {
-        if source.holds(condition) {
-            conditions.insert(condition);
-        }
-    }
-    conditions
-}
+use stores::PairSet;
+use tables::{Table, Thing};
 
 impl<S: PairSet, T: PairSet> House<S, T> {
-    // Whether the role of a role pair is active in the session, and its environment roles are among the active ones.
-    fn is_ready(&self, session: u32, place: u32, roles: Row) -> bool
-        requires { place < 64 }
-        ensures { result ≡ ready_under (draft_of self.now) (state_of S.PairSet.pairs T.PairSet.pairs self.now) (numbers roles) session place }
-    {
-        let role_pair = self.draft.role_pairs[place as usize];
-        self.sessions.is_active(session, role_pair.role)
-            && is_within(role_pair.environment_roles, roles)
-    }
-
-    // Whether a role pair and a device role make a path from the session to the permission.
-    fn has_path(&self, session: u32, permission: u32, roles: Row) -> bool
-        ensures { result ≡ way_to (draft_of self.now) (state_of S.PairSet.pairs T.PairSet.pairs self.now) (numbers roles) session permission }
-    {
-        let mut found = false;
-        'search: for place in 0..LIST_LIMIT {
-            if self.is_ready(session, place, roles) {
-                for device_role in 0..RIGHTS {
-                    if self.role_pairs.contains(place, device_role)
-                        && self.permissions.contains(permission, device_role)
-                    {
-                        found = true;
-                        break 'search;
-                    }
-                }
-            }
-        }
-        found
-    }
-
     // Whether the session may do the operation on the device under the conditions that hold.
     pub fn check_access<C: Conditions>(
         &self,
@@ -68,7 +22,7 @@ impl<S: PairSet, T: PairSet> House<S, T> {
         operation: u32,
         source: &C,
     ) -> Result<bool, Refusal>
-        ensures { (conditions : Set) → numbers conditions ≡ C.Conditions.holding source.now → told result ≡ judge (draft_of self.now) (state_of S.PairSet.pairs T.PairSet.pairs self.now) (Call.Check session device operation conditions) }
+        ensures { (conditions : Set) → numbers conditions ≡ C.Conditions.holding source.now → told result ≡ answer_of self.now (Call.Check session device operation conditions) }
     {
         let device_declared = self.draft.is_declared(Table::Things(Thing::Device), device);
         let operation_declared = self
@@ -83,7 +37,11 @@ impl<S: PairSet, T: PairSet> House<S, T> {
         let Some(permission) = self.draft.permission_number(device, operation) else {
             return Err(Refusal::NoSuchPermission);
         };
-        let roles = active_roles(self.draft.listed_entries(), source);
-        Ok(self.has_path(session, permission, roles))
+        let active = self.sessions.active_roles(session);
+        let roles = active_roles(self.draft.entries.listed(), source);
+        Ok(
+            self.assignments
+                .has_path(&self.draft, active, roles, permission),
+        )
     }
 }

@@ -9,9 +9,6 @@ mod lease;
 mod leasing;
 mod opening;
 mod sitting;
-mod spots;
-mod tests;
 
-pub use access::conditions_now;
 pub use house::House;
 pub use lease::Lease;

@@ -1,11 +1,10 @@
 // The calls of a session.
 ghost use Rattle.std.specs.Prelude.{◌≡◌};
-ghost use Rattle.rules.specs.Judging.{judge, after};
-ghost use Rattle.house.specs.Views.{draft_of, state_of, said, Sound};
+ghost use Rattle.refusals.specs.Said.{said};
+ghost use Rattle.house.specs.Views.{draft_of, state_of, answer_of, state_after};
 
 use crate::house::House;
-use crate::tests::is_separated;
-use house_parts::SESSIONS;
+use house_parts::{SESSIONS, is_separated};
 use refusals::Refusal;
 use rules::Call;
 use stores::PairSet;
@@ -14,9 +13,8 @@ use tables::{Table, Thing};
 impl<S: PairSet, T: PairSet> House<S, T> {
     // Starts the session for the user, with no role active.
     pub fn start_session(&mut self, session: u32, user: u32) -> Result<(), Refusal>
-        ensures answer { said result ≡ judge (draft_of self.old) (state_of S.PairSet.pairs T.PairSet.pairs self.old) (Call.Start session user) }
-        ensures after { state_of S.PairSet.pairs T.PairSet.pairs self.new ≡ after (draft_of self.old) (state_of S.PairSet.pairs T.PairSet.pairs self.old) (Call.Start session user) }
-        ensures sound { Sound (draft_of self.old) (state_of S.PairSet.pairs T.PairSet.pairs self.old) → Sound (draft_of self.new) (state_of S.PairSet.pairs T.PairSet.pairs self.new) }
+        ensures answer { said result ≡ answer_of self.old (Call.Start session user) }
+        ensures after { state_of self.new ≡ state_after self.old (Call.Start session user) }
         ensures same { draft_of self.new ≡ draft_of self.old }
     {
         if session >= SESSIONS || !self.draft.is_declared(Table::Things(Thing::User), user) {
@@ -31,9 +29,8 @@ impl<S: PairSet, T: PairSet> House<S, T> {
 
     // Ends the session.
     pub fn end_session(&mut self, session: u32) -> Result<(), Refusal>
-        ensures answer { said result ≡ judge (draft_of self.old) (state_of S.PairSet.pairs T.PairSet.pairs self.old) (Call.End session) }
-        ensures after { state_of S.PairSet.pairs T.PairSet.pairs self.new ≡ after (draft_of self.old) (state_of S.PairSet.pairs T.PairSet.pairs self.old) (Call.End session) }
-        ensures sound { Sound (draft_of self.old) (state_of S.PairSet.pairs T.PairSet.pairs self.old) → Sound (draft_of self.new) (state_of S.PairSet.pairs T.PairSet.pairs self.new) }
+        ensures answer { said result ≡ answer_of self.old (Call.End session) }
+        ensures after { state_of self.new ≡ state_after self.old (Call.End session) }
         ensures same { draft_of self.new ≡ draft_of self.old }
     {
         if session >= SESSIONS {
@@ -48,9 +45,8 @@ impl<S: PairSet, T: PairSet> House<S, T> {
 
     // Makes a role that the session's user holds active in the session.
     pub fn activate_role(&mut self, session: u32, role: u32) -> Result<(), Refusal>
-        ensures answer { said result ≡ judge (draft_of self.old) (state_of S.PairSet.pairs T.PairSet.pairs self.old) (Call.Activate session role) }
-        ensures after { state_of S.PairSet.pairs T.PairSet.pairs self.new ≡ after (draft_of self.old) (state_of S.PairSet.pairs T.PairSet.pairs self.old) (Call.Activate session role) }
-        ensures sound { Sound (draft_of self.old) (state_of S.PairSet.pairs T.PairSet.pairs self.old) → Sound (draft_of self.new) (state_of S.PairSet.pairs T.PairSet.pairs self.new) }
+        ensures answer { said result ≡ answer_of self.old (Call.Activate session role) }
+        ensures after { state_of self.new ≡ state_after self.old (Call.Activate session role) }
         ensures same { draft_of self.new ≡ draft_of self.old }
     {
         if session >= SESSIONS || !self.draft.is_declared(Table::Things(Thing::Role), role) {
@@ -74,9 +70,8 @@ impl<S: PairSet, T: PairSet> House<S, T> {
 
     // Drops an active role of the session.
     pub fn deactivate_role(&mut self, session: u32, role: u32) -> Result<(), Refusal>
-        ensures answer { said result ≡ judge (draft_of self.old) (state_of S.PairSet.pairs T.PairSet.pairs self.old) (Call.Deactivate session role) }
-        ensures after { state_of S.PairSet.pairs T.PairSet.pairs self.new ≡ after (draft_of self.old) (state_of S.PairSet.pairs T.PairSet.pairs self.old) (Call.Deactivate session role) }
-        ensures sound { Sound (draft_of self.old) (state_of S.PairSet.pairs T.PairSet.pairs self.old) → Sound (draft_of self.new) (state_of S.PairSet.pairs T.PairSet.pairs self.new) }
+        ensures answer { said result ≡ answer_of self.old (Call.Deactivate session role) }
+        ensures after { state_of self.new ≡ state_after self.old (Call.Deactivate session role) }
         ensures same { draft_of self.new ≡ draft_of self.old }
     {
         if session >= SESSIONS || !self.draft.is_declared(Table::Things(Thing::Role), role) {

@@ -9,7 +9,7 @@ pub const UNITS: u32 = 16;
 // To whom the lease of each unit is out.
 #[derive(Clone, Copy)]
 pub struct Leases {
-    users: [Option<u32>; 16],
+    users: [Option<u32>; UNITS as usize],
 }
 
 impl Leases {
@@ -17,17 +17,16 @@ impl Leases {
     pub fn new() -> Leases
         ensures { holder_of result ≡ nobody }
     {
-        Leases { users: [None; 16] }
+        Leases {
+            users: [None; UNITS as usize],
+        }
     }
 
     // The user who has the unit's lease.
     pub fn holder(&self, unit: u32) -> Option<u32>
         ensures { result ≡ holder_of self.now unit }
     {
-        if unit >= UNITS {
-            return None;
-        }
-        self.users[unit as usize]
+        self.users.get(unit as usize).copied().flatten()
     }
 
     // The unit's lease goes out to the user.
@@ -51,11 +50,6 @@ impl Leases {
     pub fn is_any_out(&self) -> bool
         ensures { result ≡ some_below (λ u. is_some (holder_of self.now u)) 16 }
     {
-        for unit in 0..UNITS {
-            if self.holder(unit).is_some() {
-                return true;
-            }
-        }
-        false
+        self.users.iter().any(|user| user.is_some())
     }
 }

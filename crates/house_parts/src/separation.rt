@@ -3,7 +3,8 @@ ghost use Rattle.rows.specs.Rows.{numbers};
 ghost use Rattle.rules.specs.Judging.{parted};
 ghost use Rattle.search.specs.Below.{some_below};
 
-use rows::{NUMBERS, Row};
+use lawful::is_parted;
+use rows::Row;
 use stores::PairSet;
 use tables::{Draft, Relation};
 
@@ -12,13 +13,5 @@ pub fn is_separated(draft: &Draft, active: Row, role: u32) -> bool
     ensures { result ≡ (parted draft.now role role || some_below (λ a. numbers active a && parted draft.now role a) 32) }
 {
     let pairs = draft.relation(Relation::DynamicSeparation);
-    if pairs.contains(role, role) {
-        return true;
-    }
-    for other in 0..NUMBERS {
-        if active.contains(other) && (pairs.contains(role, other) || pairs.contains(other, role)) {
-            return true;
-        }
-    }
-    false
+    pairs.contains(role, role) || is_parted(pairs, active, role)
 }

@@ -1,6 +1,6 @@
 -- A list in which no two items are the same stays so.
 use Rattle.std.proofs.Common.{◌≡◌, ℕ, zero, suc, Bool, true, false, not, List, [], ◌∷◌, ◌++◌, set, refl, ◌∙◌, ⊎_elim}
-use Rattle.std.specs.List.{remove, list_all, AllByRecursion as All}
+use Rattle.std.specs.List.{remove, list_all, AllByRecursion}
 use Rattle.index_set.specs.Distinct.{is_distinct}
 use Rattle.std.proofs.lemmas.Bool.{and_parts, and_from, cases_Bool, both_ways, not-true, not_from_false}
 use Rattle.index_set.specs.Found.{is_alike_at}
@@ -23,7 +23,7 @@ module _ {X : Type 0} (p : X → Bool) where
 
 -- An item put behind the others, or taken out.
 module _ {X : Type 0} (e : X → X → Bool) where
-  pub apart_push : (xs : List X) (x : X) → All (λ y. e y x ≡ false) xs → is_distinct e xs ≡ true → is_distinct e (xs ++ x ∷ []) ≡ true
+  pub apart_push : (xs : List X) (x : X) → AllByRecursion (λ y. e y x ≡ false) xs → is_distinct e xs ≡ true → is_distinct e (xs ++ x ∷ []) ≡ true
   apart_push [] x h k = refl
   apart_push (y ∷ ys) x h k =
       let a = and_parts (list_all (λ z. not (e y z)) ys) (is_distinct e ys) k in

@@ -1,152 +1,16 @@
-ghost use Rattle.std.specs.Prelude.{◌≡◌, ℕ, ◌-◌, ◌<◌, ◌≤◌, Bool, List, [], ◌∷◌, ◌++◌, length, take, set, if◌then◌else◌, MatchOption, slice_set};
-ghost use Rattle.std.specs.List.{slice_get, remove};
-ghost use Rattle.index_set.specs.Found.{Absent, Found, place_of, is_alike_at};
-ghost use Rattle.index_set.specs.Inserting.{insertion_of, Inserts, grown};
-ghost use Rattle.index_set.specs.Items.{items_of, Orderly, Made};
+ghost use Rattle.std.specs.Prelude.{◌≡◌, ◌≤◌, true, length, take};
+ghost use Rattle.index_set.specs.Distinct.{is_distinct};
 
-use crate::insertion::Insertion;
 use crate::same::Same;
-use refusals::Refusal;
 
-// At most `limit` items, no two the same, in order of arrival: the first `len` places of the lent memory.
+// At most `limit` items, no two the same, in order of arrival: the first `len` places of the lent memory, and no heap.
+// The limit is a value that the caller hands in, so each call says that it stays.
 #[derive(Drop)]
-pub struct IndexSet<'a, X> {
-    places: &'a mut [X],
-    len: usize,
-    limit: usize,
-}
-
-// Takes the item at `gap` out of the first `len`: those behind it move up by one.
-fn close_gap<X: Copy>(places: &mut [X], gap: usize, len: usize)
-    requires { (gap < len) × (len ≤ length places.old) }
-    ensures items { take (len - 1) places.new ≡ remove (take len places.old) gap }
-    ensures len { length places.new ≡ length places.old }
-{
-    for k in gap + 1..len {
-        places[k - 1] = places[k];
-    }
-}
-
-impl<'a, X: Same + Copy> IndexSet<'a, X> {
-    // The empty set for at most `limit` items; refused where the memory has fewer places.
-    pub fn new(memory: &'a mut [X], limit: usize) -> Result<IndexSet<'a, X>, Refusal>
-        ensures { Made X.alike limit memory.old result }
-    {
-        if memory.len() < limit {
-            return Err(Refusal::MemoryTooShort);
-        }
-        Ok(IndexSet {
-            places: memory,
-            len: 0,
-            limit,
-        })
-    }
-
-    // The items in order of arrival.
-    pub fn items(&self) -> &[X]
-        requires { Orderly X.alike self.now }
-        ensures { result.now ≡ items_of self.now }
-    {
-        &self.places[0..self.len]
-    }
-
-    pub fn len(&self) -> usize
-        requires { Orderly X.alike self.now }
-        ensures { result ≡ length (items_of self.now) }
-    {
-        self.items().len()
-    }
-
-    // The item at `index`.
-    pub fn get(&self, index: usize) -> Option<X>
-        requires { Orderly X.alike self.now }
-        ensures { result ≡ slice_get (items_of self.now) index }
-    {
-        let items = self.items();
-        if index < items.len() {
-            Some(items[index])
-        } else {
-            None
-        }
-    }
-
-    // The index of the item that is the same as `x`.
-    pub fn index_of(&self, x: &X) -> Option<usize>
-        requires { Orderly X.alike self.now }
-        ensures place { result ≡ place_of X.alike (items_of self.now) x.now }
-        ensures words { MatchOption result (Absent X.alike (items_of self.now) x.now) (Found X.alike (items_of self.now) x.now) }
-    {
-        for (index, item) in self.items().iter().enumerate() {
-            if item.same(x) {
-                return Some(index);
-            }
-        }
-        None
-    }
-
-    // Puts `x` in behind the others, unless the same item is there or there is no room.
-    pub fn insert(&mut self, x: X) -> Insertion
-        requires { Orderly X.alike self.old }
-        ensures orderly { Orderly X.alike self.new }
-        ensures answer { result ≡ insertion_of X.alike self.old.limit (items_of self.old) x }
-        ensures words { Inserts X.alike self.old.limit (items_of self.old) x result }
-        ensures items { items_of self.new ≡ grown result (items_of self.old) x }
-        ensures limit { self.new.limit ≡ self.old.limit }
-    {
-        if let Some(index) = self.index_of(&x) {
-            return Insertion::AlreadyThere(index);
-        }
-        if self.len == self.limit {
-            return Insertion::Full;
-        }
-        let index = self.len;
-        self.places[index] = x;
-        self.len = index + 1;
-        Insertion::Inserted(index)
-    }
-
-    // Puts `x` in the place of the item at `index`, if the two are the same.
-    pub fn replace(&mut self, index: usize, x: X) -> bool
-        requires { Orderly X.alike self.old }
-        ensures orderly { Orderly X.alike self.new }
-        ensures answer { result ≡ is_alike_at X.alike (items_of self.old) index x }
-        ensures items { items_of self.new ≡ (if result then slice_set (items_of self.old) index x else items_of self.old) }
-        ensures limit { self.new.limit ≡ self.old.limit }
-    {
-        if index >= self.len {
-            return false;
-        }
-        if !self.places[index].same(&x) {
-            return false;
-        }
-        self.places[index] = x;
-        true
-    }
-
-    // Takes the item at `index` out; those behind it move up by one, and the last place serves again.
-    pub fn shift_remove(&mut self, index: usize) -> Option<X>
-        requires { Orderly X.alike self.old }
-        ensures orderly { Orderly X.alike self.new }
-        ensures answer { result ≡ slice_get (items_of self.old) index }
-        ensures items { items_of self.new ≡ remove (items_of self.old) index }
-        ensures limit { self.new.limit ≡ self.old.limit }
-    {
-        if index >= self.len {
-            return None;
-        }
-        let item = self.places[index];
-        let len = self.len;
-        close_gap(self.places, index, len);
-        self.len = len - 1;
-        Some(item)
-    }
-
-    pub fn clear(&mut self)
-        requires { Orderly X.alike self.old }
-        ensures orderly { Orderly X.alike self.new }
-        ensures items { items_of self.new ≡ [] }
-        ensures limit { self.new.limit ≡ self.old.limit }
-    {
-        self.len = 0;
-    }
+pub struct IndexSet<'a, X: Same> {
+    pub(crate) places: &'a mut [X],
+    pub(crate) len: usize,
+    pub(crate) limit: usize,
+    ghost within: { len ≤ limit },
+    ghost fits: { limit ≤ length places.now },
+    ghost distinct: { is_distinct X.alike (take len places.now) ≡ true },
 }

@@ -1,4 +1,5 @@
-// What became of an item that was to be put in.
+// What became of an item that was to be put in. A repeat is an outcome and no
+// error, so this is no Result.
 #[derive(Clone, Copy, Debug)]
 pub enum Insertion {
     // It was put in behind the others, at this index.

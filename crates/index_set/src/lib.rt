@@ -2,6 +2,7 @@
 
 #![tactic(auto)]
 
+mod calls;
 mod index_set;
 mod insertion;
 mod same;

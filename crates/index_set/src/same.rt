@@ -1,6 +1,6 @@
 ghost use Rattle.std.specs.Prelude.{◌≡◌, Bool, true};
 
-// An item that can be told to be the same as another, whatever else the two hold.
+// An item that can be told to be the same as another, whatever else the two hold: so it is no `PartialEq`.
 pub trait Same {
     ghost alike: { Self → Self → Bool };
 

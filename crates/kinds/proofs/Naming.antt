@@ -1,7 +1,8 @@
 -- Each kind has exactly one word.
-use Rattle.std.proofs.Common.{◌≡◌, ℕ, Bool, true, false, ◌&&◌, List, [], ◌∷◌, Some, codes, sym, refl, ap, ◌∙◌, arith}
+use Rattle.std.proofs.Common.{◌≡◌, ℕ, Bool, true, false, List, [], ◌∷◌, Some, codes, sym, refl, ap, ◌∙◌, arith}
 use Rattle.std.proofs.lemmas.Slice.Eq.{bytes_eq-Decides}
 use Rattle.std.proofs.lemmas.Bool.{and_parts}
+use Rattle.std.specs.List.{list_all}
 use Rattle.std.specs.Str.{bytes_eq}
 use Rattle.tables.specs.declared.relation.Relation.{Relation}
 use Rattle.tables.specs.declared.relation.Relation.TheVariants.{UserRoles, PermissionAssignment, RolePairAssignment, Bars, StaticSeparation, DynamicSeparation, Administrators, RoleTaskRolePairs, RoleTaskDeviceRoles, PermissionTaskPermissions, PermissionTaskDeviceRoles, ProhibitedPairs}
@@ -115,8 +116,7 @@ named (Ask q) = asks q
 
 -- every entry of a table has the word of its kind
 abbrev rightly : List (List ℕ × Kind) → Bool
-rightly [] = true
-rightly (e ∷ es) = bytes_eq (word_of e.1) e.0 && rightly es
+rightly es = list_all (λ e. bytes_eq (word_of e.1) e.0) es
 
 -- then what the table finds has the word of the kind that it names
 only : (es : List (List ℕ × Kind)) → rightly es ≡ true → (k : Kind) (v : List ℕ) → find es v ≡ Some k → v ≡ word_of k

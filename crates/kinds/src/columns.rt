@@ -30,6 +30,7 @@ const ROLE_PAIR: Column = Column::Known(NameTable::RolePairs);
 const NUMBER: Column = Column::Number;
 
 // The columns of a record that declares a thing.
+// A list that outlives the call is made of constants, so each thing has a line of its own.
 fn declaring(thing: Thing) -> &'static [Column]
     ensures { result.now ≡ declaring thing }
 {
@@ -116,14 +117,10 @@ impl Kind {
     pub fn column(self, place: usize) -> Column
         ensures { result ≡ column_at self place }
     {
-        let columns = self.columns();
-        if place < columns.len() {
-            return columns[place];
-        }
-        match self.repeated() {
-            Some(column) => column,
-            None => Column::Flag,
-        }
+        self.columns()
+            .get(place)
+            .copied()
+            .unwrap_or(self.repeated().unwrap_or(Column::Flag))
     }
 
     // Whether a record of the kind may have that many fields, its name included.
@@ -132,7 +129,7 @@ impl Kind {
     {
         let least = self.columns().len() + 1;
         match self.repeated() {
-            Some(_) => least <= count && count <= MOST_FIELDS,
+            Some(_) => (least..=MOST_FIELDS).contains(&count),
             None => count == least,
         }
     }

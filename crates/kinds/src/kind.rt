@@ -1,6 +1,6 @@
 use tables::{Relation, Thing};
 
-// What a request asks of the house, the sensor board or the week clock.
+// What a request asks of the house, the sensor board or the week clock: data, with a word and columns each.
 #[derive(Clone, Copy)]
 pub enum Request {
     Open,

@@ -1,8 +1,6 @@
 ghost use Rattle.kinds.specs.Words.{OneWordEach};
 
 // Each kind has exactly one word.
-pub fn every_kind_has_one_word() -> u8
+pub fn every_kind_has_one_word()
     ensures { OneWordEach }
-{
-    0
-}
+{}

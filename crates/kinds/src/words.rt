@@ -10,7 +10,7 @@ use values::is_word;
 #[derive(Clone, Copy)]
 struct Word(&'static [u8], Kind);
 
-// All record names.
+// All record names: a table that takes no heap, and is searched from its front.
 fn word_table() -> &'static [Word]
     ensures { listed result.now ≡ words }
 {
@@ -64,15 +64,14 @@ fn word_table() -> &'static [Word]
 fn look_up(table: &[Word], word: &[u8]) -> Option<Kind>
     ensures { result ≡ find (listed table.now) word.now }
 {
-    for candidate in table {
-        if is_word(word, candidate.0) {
-            return Some(candidate.1);
-        }
-    }
-    None
+    table
+        .iter()
+        .find(|Word(text, _)| is_word(word, text))
+        .map(|Word(_, kind)| *kind)
 }
 
 // The kind of record that a word names; none where it is no record name.
+#[tactic(auto, unfolding(crate::specs::Words::kind_of_lem))]
 pub fn kind_of(word: &[u8]) -> Option<Kind>
     ensures { result ≡ kind_of_lem word.now }
 {

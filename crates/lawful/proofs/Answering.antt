@@ -1,7 +1,8 @@
 -- What the check's answer says of a draft.
-use Rattle.std.proofs.Common.{◌≡◌, ℕ, zero, suc, ◌-◌, ◌<◌, ◌≤◌, Bool, true, false, not, leb, List, [], ◌∷◌, length, get_or, take, drop, is_some, Some, None, Option, Result, sym, refl, ap, ◌∙◌, ⊎_elim, arith, lit<, MatchOption}
+use Rattle.std.proofs.Common.{◌≡◌, ℕ, zero, suc, ◌<◌, ◌≤◌, Bool, true, false, cond, not, leb, List, [], ◌∷◌, length, get_or, is_some, Some, None, Option, Result, sym, refl, ap, ◌∙◌, ⊎_elim, arith, lit<, MatchOption}
 use Rattle.refusals.specs.Codes.{code_of}
 use Rattle.refusals.specs.declared.refusal.Refusal.{Refusal}
+use Rattle.std.specs.List.{find}
 use Rattle.search.specs.Below.{all_below}
 use Rattle.search.proofs.Finds.{pair_never, pair_clear, pair_at}
 use Rattle.search.proofs.Somes.{all_decides}
@@ -20,7 +21,6 @@ use Rattle.lawful.specs.declared.rule.Rule.{Rule}
 use Rattle.lawful.specs.declared.rule.Rule.TheVariants.{WithinLimit, PermissionsDeclared, RolePairsDeclared, EntriesDeclared, PermissionsApart, RolePairsApart, PairsDeclared, NumberInRange, RolesSeparate, TasksApart, NothingProhibited, NothingBarred}
 use Rattle.lawful.specs.declared.task.Task.{Task}
 use Rattle.lawful.proofs.Keeping.{kept, cleared}
-use Rattle.lawful.proofs.Slices.{nil_of, cons_read}
 
 -- a rule has no breach exactly where it is kept
 
@@ -194,13 +194,13 @@ no_rule (Some x) e = absurd (both_ways false refl e)
 pub lawful_test : (d : Draft) → is_lawful d ≡ true → Lawful d
 lawful_test d e = lawful d (no_rule (first_broken_lem d all_rules) e)
 
--- the recursion over a list of rules, by a slice pattern
+-- the search for the first broken rule, by std's `find`
 
-pub broken_none : (d : Draft) (rs : List Rule) → length rs < 1 → None ≡ first_broken_lem d rs
-unfolding first_broken_lem
-broken_none d rs h = ap (λ x. first_broken_lem d x) (sym (nil_of rs h))
+found_by : (d : Draft) (r : Rule) (rs : List Rule) (o : Option (ℕ × ℕ)) → or_rest r o (first_broken_lem d rs) ≡ cond (is_some o) (Some r) (first_broken_lem d rs)
+found_by d r rs None = refl
+found_by d r rs (Some p) = refl
 
-pub broken_first : (d : Draft) (rs : List Rule) (z : Rule) → 0 < length rs
-    → first_broken_lem d rs ≡ or_rest (get_or rs 0 z) (breach_of d (get_or rs 0 z)) (first_broken_lem d (take (length rs - 1) (drop 1 rs)))
+pub broken_found : (d : Draft) (rs : List Rule) → first_broken_lem d rs ≡ find (λ r. is_some (breach_of d r)) rs
 unfolding first_broken_lem
-broken_first d rs z h = ap (λ x. first_broken_lem d x) (cons_read rs z h)
+broken_found d [] = refl
+broken_found d (r ∷ rs) = found_by d r rs (breach_of d r) ∙ ap (λ o. cond (is_some (breach_of d r)) (Some r) o) (broken_found d rs)

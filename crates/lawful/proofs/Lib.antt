@@ -1,5 +1,4 @@
 pub mod Bounds
 pub mod Holding
 pub mod Keeping
-pub mod Slices
 pub mod Answering

@@ -1,18 +1,15 @@
 -- When a pair of numbers breaks a rule, as a test.
 use Rattle.std.specs.Prelude.{ℕ, Bool, not, ◌&&◌, ◌||◌, Option, ◌==◌, nat_lt}
-use Rattle.rows.specs.Numbers.{both, agree, two_below}
-use Rattle.rows.specs.Rows.{numbers}
-use Rattle.search.specs.Below.{some_below, all_below}
+use Rattle.rows.specs.Numbers.{both, two_below}
+use Rattle.search.specs.Below.{some_below}
 use Rattle.search.specs.Firsts.{first_pair}
-use Rattle.tables.specs.Adding.{goes_beyond_lem}
-use Rattle.tables.specs.Drafts.{things, count, declared, related, permission_at, role_pair_at, entry_at}
+use Rattle.tables.specs.Drafts.{count, declared, related, permission_at, role_pair_at, entry_at}
 use Rattle.tables.specs.Limits.{table_limit, number_limit}
-use Rattle.tables.specs.Sides.{left_of, right_of}
+use Rattle.tables.specs.Naming.{permission_lacks, role_pair_lacks, entry_lacks, permissions_alike, role_pairs_alike, pair_declared}
 use Rattle.tables.specs.declared.draft.Draft.{Draft}
 use Rattle.tables.specs.declared.relation.Relation.{Relation}
 use Rattle.tables.specs.declared.relation.Relation.TheVariants.{UserRoles, PermissionAssignment, RolePairAssignment, Bars, StaticSeparation, ProhibitedPairs}
-use Rattle.tables.specs.declared.table.Table.TheVariants.{Things, Permissions, RolePairs, Entries}
-use Rattle.tables.specs.declared.table.Thing.TheVariants.{Role, Device, Operation, Condition, EnvironmentRole}
+use Rattle.tables.specs.declared.table.Table.TheVariants.{Permissions, RolePairs, Entries}
 use Rattle.lawful.specs.Tasks.{held_by}
 use Rattle.lawful.specs.declared.rule.Rule.{Rule}
 use Rattle.lawful.specs.declared.rule.Rule.TheVariants.{WithinLimit, PermissionsDeclared, RolePairsDeclared, EntriesDeclared, PermissionsApart, RolePairsApart, PairsDeclared, NumberInRange, RolesSeparate, TasksApart, NothingProhibited, NothingBarred}
@@ -21,35 +18,33 @@ use Rattle.lawful.specs.declared.task.Task.{Task}
 -- the item at this place is there, and names something undeclared
 
 abbrev pub permission_undeclared : Draft → ℕ → Bool
-permission_undeclared d p =
-    declared d Permissions p && not (declared d (Things Device) (permission_at d p).device && declared d (Things Operation) (permission_at d p).operation)
+permission_undeclared d p = declared d Permissions p && permission_lacks d (permission_at d p)
 
 abbrev pub role_pair_undeclared : Draft → ℕ → Bool
-role_pair_undeclared d q =
-    declared d RolePairs q && (not (declared d (Things Role) (role_pair_at d q).role) || goes_beyond_lem (numbers (role_pair_at d q).environment_roles) (things d EnvironmentRole))
+role_pair_undeclared d q = declared d RolePairs q && role_pair_lacks d (role_pair_at d q)
 
 abbrev pub entry_undeclared : Draft → ℕ → Bool
-entry_undeclared d e =
-    declared d Entries e && (not (declared d (Things EnvironmentRole) (entry_at d e).environment_role) || goes_beyond_lem (numbers (entry_at d e).conditions) (things d Condition))
+entry_undeclared d e = declared d Entries e && entry_lacks d (entry_at d e)
 
 -- the items at i and j, in this order, have the same content
 
 abbrev pub permission_twice : Draft → ℕ → ℕ → Bool
-permission_twice d i j =
-    nat_lt i j && (declared d Permissions j && ((permission_at d i).device == (permission_at d j).device && (permission_at d i).operation == (permission_at d j).operation))
+permission_twice d i j = nat_lt i j && (declared d Permissions j && permissions_alike (permission_at d i) (permission_at d j))
 
 abbrev pub role_pair_twice : Draft → ℕ → ℕ → Bool
-role_pair_twice d i j =
-    nat_lt i j && (declared d RolePairs j
-    && ((role_pair_at d i).role == (role_pair_at d j).role && all_below (agree (numbers (role_pair_at d i).environment_roles) (numbers (role_pair_at d j).environment_roles)) 32))
+role_pair_twice d i j = nat_lt i j && (declared d RolePairs j && role_pairs_alike (role_pair_at d i) (role_pair_at d j))
 
 -- the pair is in the relation, and a number of it is not declared
 abbrev pub pair_undeclared : Draft → Relation → ℕ → ℕ → Bool
-pair_undeclared d r a b = related d r a b && not (declared d (left_of r) a && declared d (Things (right_of r)) b)
+pair_undeclared d r a b = related d r a b && not (pair_declared d r a b)
+
+-- the number b is of the set, and the pairs have it with a, in either order
+abbrev pub parted_by : (ℕ → ℕ → Bool) → (ℕ → Bool) → ℕ → ℕ → Bool
+parted_by pairs roles a b = roles b && (pairs a b || pairs b a)
 
 -- the user u holds the role b, which static separation pairs with the role a
 abbrev pub separated_by : Draft → ℕ → ℕ → ℕ → Bool
-separated_by d u a b = related d UserRoles u b && (related d StaticSeparation a b || related d StaticSeparation b a)
+separated_by d u = parted_by (related d StaticSeparation) (related d UserRoles u)
 
 abbrev pub separated : Draft → ℕ → ℕ → Bool
 separated d u a = some_below (separated_by d u a) 32

@@ -3,38 +3,28 @@ ghost use Rattle.search.specs.Firsts.{FirstPair};
 ghost use Rattle.lawful.specs.Breaking.{breaks, rows_of, columns_of, breach_of};
 ghost use Rattle.lawful.specs.Keeping.{Keeps};
 
-use crate::lists::{
-    is_entry_undeclared, is_permission_twice, is_permission_undeclared, is_role_pair_twice,
-    is_role_pair_undeclared,
-};
+use crate::lists::{is_twice, is_undeclared};
 use crate::relations::{holds_separated, is_pair_undeclared, is_reached, is_shared};
 use crate::rule::Rule;
-use search::{PairTest, first_hit};
+use search::first_hit;
 use stores::{LEFTS, PairSet, RIGHTS};
-use tables::{Draft, LIST_LIMIT, Relation};
+use tables::{Draft, Entry, LIST_LIMIT, Permission, Relation, RolePair};
 
 // The largest number of a house.
 pub const LARGEST_NUMBER: u32 = 999_999;
 
-// A draft, and the rule that it is searched for.
-#[derive(Drop)]
-struct Breach<'a> {
-    draft: &'a Draft,
-    rule: Rule,
-}
-
-impl PairTest for Breach<'_> {
-    ghost hit = { λ s. breaks s.draft.now s.rule };
-
-    fn is_hit(&self, left: u32, right: u32) -> bool {
-        let draft = self.draft;
-        match self.rule {
+impl Rule {
+    // Whether the pair of numbers breaks the rule.
+    fn is_broken_at(self, draft: &Draft, left: u32, right: u32) -> bool
+        ensures { result ≡ breaks draft.now self left right }
+    {
+        match self {
             Rule::WithinLimit(table) => draft.count(table) > table.limit(),
-            Rule::PermissionsDeclared => is_permission_undeclared(draft, left),
-            Rule::RolePairsDeclared => is_role_pair_undeclared(draft, left),
-            Rule::EntriesDeclared => is_entry_undeclared(draft, left),
-            Rule::PermissionsApart => is_permission_twice(draft, left, right),
-            Rule::RolePairsApart => is_role_pair_twice(draft, left, right),
+            Rule::PermissionsDeclared => is_undeclared::<Permission>(draft, left),
+            Rule::RolePairsDeclared => is_undeclared::<RolePair>(draft, left),
+            Rule::EntriesDeclared => is_undeclared::<Entry>(draft, left),
+            Rule::PermissionsApart => is_twice::<Permission>(draft, left, right),
+            Rule::RolePairsApart => is_twice::<RolePair>(draft, left, right),
             Rule::PairsDeclared(relation) => is_pair_undeclared(draft, relation, left, right),
             Rule::NumberInRange => draft.number > LARGEST_NUMBER,
             Rule::RolesSeparate => draft.relation(Relation::UserRoles).contains(left, right)
@@ -50,9 +40,7 @@ impl PairTest for Breach<'_> {
                 && is_reached(draft, right, left),
         }
     }
-}
 
-impl Rule {
     // How many left and right numbers a breach of the rule can have.
     fn extent(self) -> (u32, u32)
         ensures { (result.0 ≡ rows_of self) × (result.1 ≡ columns_of self) }
@@ -79,5 +67,9 @@ pub fn first_breach(draft: &Draft, rule: Rule) -> Option<(u32, u32)>
     ensures words { MatchOption result (Keeps draft.now rule) (λ _. Keeps draft.now rule → ⊥) }
 {
     let (lefts, rights) = rule.extent();
-    first_hit(&Breach { draft, rule }, lefts, rights)
+    first_hit(
+        |left, right| rule.is_broken_at(draft, left, right),
+        lefts,
+        rights,
+    )
 }

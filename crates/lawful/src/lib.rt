@@ -11,5 +11,6 @@ mod task;
 
 pub use breach::first_breach;
 pub use check::check_draft;
+pub use relations::is_parted;
 pub use rule::Rule;
 pub use task::{Task, unit_of};

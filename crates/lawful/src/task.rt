@@ -1,9 +1,9 @@
 ghost use Rattle.std.specs.Prelude.{◌≡◌};
 ghost use Rattle.search.specs.Firsts.{first_below};
-ghost use Rattle.rows.specs.Numbers.{both};
-ghost use Rattle.tables.specs.Drafts.{related};
+ghost use Rattle.rows.specs.Rows.{numbers};
 ghost use Rattle.lawful.specs.Tasks.{lefts_of, rights_of, held_by, Holder};
 
+use stores::Row;
 use tables::{Draft, Relation};
 
 // The two tasks of a unit.
@@ -37,12 +37,20 @@ impl Task {
     }
 }
 
+// The units whose task holds the pair.
+pub fn units_of(draft: &Draft, task: Task, left: u32, device_role: u32) -> Row
+    ensures { numbers result ≡ held_by draft.now task left device_role }
+{
+    let lefts = draft.relation(task.lefts()).row(left);
+    let rights = draft.relation(task.device_roles()).row(device_role);
+    lefts.and(rights)
+}
+
 // The unit whose task holds the pair. In a lawful draft it is the only one.
+// The two numbers of a pair are passed one by one, as the relations take them.
 pub fn unit_of(draft: &Draft, task: Task, left: u32, device_role: u32) -> Option<u32>
     ensures exact { result ≡ first_below (held_by draft.now task left device_role) 32 }
     ensures words { Holder draft.now task left device_role result }
 {
-    let lefts = draft.relation(task.lefts()).row(left);
-    let rights = draft.relation(task.device_roles()).row(device_role);
-    lefts.and(rights).first()
+    units_of(draft, task, left, device_role).first()
 }

@@ -1,3 +1,3 @@
 pub mod Places
 pub mod Registers
-pub mod Fresh
+pub mod Limits

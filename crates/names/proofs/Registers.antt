@@ -1,49 +1,13 @@
--- A register in the place of another.
-use Rattle.std.proofs.Common.{◌≡◌, ℕ, Bool, true, false, cond, eqb, [], ◌∷◌, ◌++◌, sym, refl, ap, ◌∙◌, subst}
+-- One table with one more name.
+use Rattle.std.proofs.Common.{◌≡◌, ℕ, Bool, true, false, cond, eqb, List, [], ◌∷◌, ◌++◌, sym, refl, ap, ◌∙◌}
 use mathlib.Core.Path.{fun_ext}
-use Rattle.index_set.specs.Items.{items_of, Orderly}
-use Rattle.index_set.specs.declared.index_set.IndexSet.{IndexSet}
 use Rattle.kinds.specs.declared.column.NameTable.{NameTable}
 use Rattle.kinds.specs.declared.column.NameTable.TheVariants.{Things, RolePairs}
 use Rattle.std.proofs.lemmas.Bool.{eqb-true}
-use Rattle.tables.specs.Limits.{table_limit}
 use Rattle.tables.specs.declared.table.Thing.{Thing}
 use Rattle.tables.specs.declared.table.Thing.TheVariants.{User, Role, Device, Operation, DeviceRole, Condition, EnvironmentRole}
-use Rattle.values.specs.Names.{spelling, same_spelling}
-use Rattle.values.specs.declared.name.Name.{Name}
-use Rattle.names.specs.Spelt.{spelt}
-use Rattle.names.specs.Spellings.{register_of, spellings, with_name, Tidy}
-use Rattle.names.specs.Tables.{table_of, table_index, same_table}
-use Rattle.names.specs.declared.names.Names.{Names}
-
-abbrev pick : NameTable → NameTable → IndexSet Name → IndexSet Name → IndexSet Name
-pick t u s old = cond (same_table t u) s old
-
--- the names with the register s for table t
-abbrev pub with_register : Names → NameTable → IndexSet Name → Names
-with_register n t s =
-    record {
-      users = pick t (Things User) s n.users;
-      roles = pick t (Things Role) s n.roles;
-      devices = pick t (Things Device) s n.devices;
-      operations = pick t (Things Operation) s n.operations;
-      device_roles = pick t (Things DeviceRole) s n.device_roles;
-      conditions = pick t (Things Condition) s n.conditions;
-      environment_roles = pick t (Things EnvironmentRole) s n.environment_roles;
-      units = pick t (Things Thing.Unit) s n.units;
-      role_pairs = pick t RolePairs s n.role_pairs;
-    }
-
-at_with : (n : Names) (t u : NameTable) (s : IndexSet Name) → register_of (with_register n t s) u ≡ pick t u s (register_of n u)
-at_with n t (Things User) s = refl
-at_with n t (Things Role) s = refl
-at_with n t (Things Device) s = refl
-at_with n t (Things Operation) s = refl
-at_with n t (Things DeviceRole) s = refl
-at_with n t (Things Condition) s = refl
-at_with n t (Things EnvironmentRole) s = refl
-at_with n t (Things Thing.Unit) s = refl
-at_with n t RolePairs s = refl
+use Rattle.names.specs.Spellings.{with_name}
+use Rattle.names.specs.Tables.{table_index, same_table}
 
 -- the index of a table tells which it is
 table_at : ℕ → NameTable
@@ -67,26 +31,25 @@ back RolePairs = refl
 pub same_from : (t u : NameTable) → same_table t u ≡ true → t ≡ u
 same_from t u e = sym (back t) ∙ ap table_at (eqb-true (table_index t) (table_index u) e) ∙ back u
 
--- s is the register of table t with one name more
-module _ (n : Names) (t : NameTable) (s : IndexSet Name) where
-  tidy_at : (u : NameTable) (b : Bool) → same_table t u ≡ b → Tidy n → Orderly same_spelling s → s.limit ≡ (register_of n t).limit
-      → Orderly same_spelling (cond b s (register_of n u)) × ((cond b s (register_of n u)).limit ≡ table_limit (table_of u))
-  tidy_at u true e all here limit = (here, limit ∙ (all t).1 ∙ ap (λ v. table_limit (table_of v)) (same_from t u e))
-  tidy_at u false e all here limit = all u
+-- what holds of each table holds of all
+pub each_table : (P : NameTable → Type 0) → P (Things User) → P (Things Role) → P (Things Device) → P (Things Operation) → P (Things DeviceRole)
+    → P (Things Condition) → P (Things EnvironmentRole) → P (Things Thing.Unit) → P RolePairs → (t : NameTable) → P t
+each_table P a b c d e f g h i (Things User) = a
+each_table P a b c d e f g h i (Things Role) = b
+each_table P a b c d e f g h i (Things Device) = c
+each_table P a b c d e f g h i (Things Operation) = d
+each_table P a b c d e f g h i (Things DeviceRole) = e
+each_table P a b c d e f g h i (Things Condition) = f
+each_table P a b c d e f g h i (Things EnvironmentRole) = g
+each_table P a b c d e f g h i (Things Thing.Unit) = h
+each_table P a b c d e f g h i RolePairs = i
 
-  pub tidy_with : Tidy n → Orderly same_spelling s → s.limit ≡ (register_of n t).limit → Tidy (with_register n t s)
-  tidy_with all here limit u =
-      let P : IndexSet Name → Type 0 = λ x. Orderly same_spelling x × (x.limit ≡ table_limit (table_of u)) in
-      subst P (sym (at_with n t u s)) (tidy_at u (same_table t u) refl all here limit)
+-- after differs from before in the table t alone, which has the name s more; table is t, as a match has it
+module _ (before after : NameTable → List (List ℕ)) (t : NameTable) (s : List ℕ) (more : after t ≡ before t ++ s ∷ []) where
+  named_at : (u : NameTable) (b : Bool) → same_table t u ≡ b → cond b (after t) (before u) ≡ cond b (before u ++ s ∷ []) (before u)
+  named_at u true e = more ∙ ap (λ v. before v ++ s ∷ []) (same_from t u e)
+  named_at u false e = refl
 
-  names_at : (name : Name) (u : NameTable) (b : Bool) → same_table t u ≡ b → spelt (items_of s) ≡ spellings n t ++ spelling name ∷ []
-      → spelt (items_of (cond b s (register_of n u))) ≡ cond b (spellings n u ++ spelling name ∷ []) (spellings n u)
-  names_at name u true e more = more ∙ ap (λ v. spellings n v ++ spelling name ∷ []) (same_from t u e)
-  names_at name u false e more = refl
-
-  -- table is t, as a match has it
-  pub names_with : (table : NameTable) → table ≡ t → (name : Name) → spelt (items_of s) ≡ spellings n t ++ spelling name ∷ []
-      → spellings (with_register n t s) ≡ with_name (spellings n) table (spelling name)
+  pub name_added : (table : NameTable) → table ≡ t → ((u : NameTable) → after u ≡ cond (same_table t u) (after t) (before u)) → after ≡ with_name before table s
   unfolding with_name
-  names_with table is name more =
-      (fun_ext λ u. ap (λ x. spelt (items_of x)) (at_with n t u s) ∙ names_at name u (same_table t u) refl more) ∙ ap (λ v. with_name (spellings n) v (spelling name)) (sym is)
+  name_added table is others = (fun_ext λ u. others u ∙ named_at u (same_table t u) refl) ∙ ap (λ v. with_name before v s) (sym is)

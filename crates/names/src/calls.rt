@@ -4,11 +4,10 @@ ghost use Rattle.std.specs.Str.{bytes_eq};
 ghost use Rattle.tables.specs.Limits.{table_limit};
 ghost use Rattle.values.specs.Names.{spelling};
 ghost use Rattle.names.specs.Tables.{table_of};
-ghost use Rattle.names.specs.Spellings.{register_of, spellings, with_name, Tidy, Made};
+ghost use Rattle.names.specs.Spellings.{spellings, with_name, Made};
 
-use crate::names::{NAME_PLACES, Names, ROLE_PAIRS, THINGS, UNITS};
-use crate::register::{empty, place, put};
-use index_set::IndexSet;
+use crate::names::{NAME_PLACES, Names, THINGS, UNITS};
+use crate::register::Register;
 use kinds::NameTable;
 use refusals::Refusal;
 use tables::Thing;
@@ -31,65 +30,56 @@ impl<'a> Names<'a> {
         let (environment_roles, memory) = memory.split_at_mut(THINGS);
         let (units, role_pairs) = memory.split_at_mut(UNITS);
         Ok(Names {
-            users: empty(users, THINGS),
-            roles: empty(roles, THINGS),
-            devices: empty(devices, THINGS),
-            operations: empty(operations, THINGS),
-            device_roles: empty(device_roles, THINGS),
-            conditions: empty(conditions, THINGS),
-            environment_roles: empty(environment_roles, THINGS),
-            units: empty(units, UNITS),
-            role_pairs: empty(role_pairs, ROLE_PAIRS),
+            users: Register::new(users),
+            roles: Register::new(roles),
+            devices: Register::new(devices),
+            operations: Register::new(operations),
+            device_roles: Register::new(device_roles),
+            conditions: Register::new(conditions),
+            environment_roles: Register::new(environment_roles),
+            units: Register::new(units),
+            role_pairs: Register::new(role_pairs),
         })
     }
 
-    // The register of a table.
-    fn register(&self, table: NameTable) -> &IndexSet<'a, Name>
-        ensures { result.now ≡ register_of self.now table }
+    // The number of the name that the bytes spell in a table; none where no such name is declared there.
+    // An arm for each table, here and below: a register has its limit in its type, so that a loan cannot change it.
+    pub fn find(&self, table: NameTable, value: &[u8]) -> Option<u32>
+        ensures { result ≡ place_of bytes_eq (spellings self.now table) value.now }
     {
         match table {
             NameTable::Things(thing) => match thing {
-                Thing::User => &self.users,
-                Thing::Role => &self.roles,
-                Thing::Device => &self.devices,
-                Thing::Operation => &self.operations,
-                Thing::DeviceRole => &self.device_roles,
-                Thing::Condition => &self.conditions,
-                Thing::EnvironmentRole => &self.environment_roles,
-                Thing::Unit => &self.units,
+                Thing::User => self.users.place(value),
+                Thing::Role => self.roles.place(value),
+                Thing::Device => self.devices.place(value),
+                Thing::Operation => self.operations.place(value),
+                Thing::DeviceRole => self.device_roles.place(value),
+                Thing::Condition => self.conditions.place(value),
+                Thing::EnvironmentRole => self.environment_roles.place(value),
+                Thing::Unit => self.units.place(value),
             },
-            NameTable::RolePairs => &self.role_pairs,
+            NameTable::RolePairs => self.role_pairs.place(value),
         }
-    }
-
-    // The number of the name that the bytes spell in a table; none where no such name is declared there.
-    pub fn find(&self, table: NameTable, value: &[u8]) -> Option<u32>
-        requires { Tidy self.now }
-        ensures { result ≡ place_of bytes_eq (spellings self.now table) value.now }
-    {
-        place(self.register(table), value)
     }
 
     // Declares a name that a table lacks and has room for.
     pub fn declare(&mut self, table: NameTable, name: Name)
-        requires tidy { Tidy self.old }
         requires absent { place_of bytes_eq (spellings self.old table) (spelling name) ≡ None }
         requires room { length (spellings self.old table) < table_limit (table_of table) }
-        ensures tidy { Tidy self.new }
-        ensures names { spellings self.new ≡ with_name (spellings self.old) table (spelling name) }
+        ensures { spellings self.new ≡ with_name (spellings self.old) table (spelling name) }
     {
         match table {
             NameTable::Things(thing) => match thing {
-                Thing::User => put(&mut self.users, name),
-                Thing::Role => put(&mut self.roles, name),
-                Thing::Device => put(&mut self.devices, name),
-                Thing::Operation => put(&mut self.operations, name),
-                Thing::DeviceRole => put(&mut self.device_roles, name),
-                Thing::Condition => put(&mut self.conditions, name),
-                Thing::EnvironmentRole => put(&mut self.environment_roles, name),
-                Thing::Unit => put(&mut self.units, name),
+                Thing::User => self.users.put(name),
+                Thing::Role => self.roles.put(name),
+                Thing::Device => self.devices.put(name),
+                Thing::Operation => self.operations.put(name),
+                Thing::DeviceRole => self.device_roles.put(name),
+                Thing::Condition => self.conditions.put(name),
+                Thing::EnvironmentRole => self.environment_roles.put(name),
+                Thing::Unit => self.units.put(name),
             },
-            NameTable::RolePairs => put(&mut self.role_pairs, name),
+            NameTable::RolePairs => self.role_pairs.put(name),
         }
     }
 }

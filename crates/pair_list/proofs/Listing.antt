@@ -1,7 +1,7 @@
 -- A list of different pairs as a set: what is there, what is absent, and one taken out.
 use Rattle.std.proofs.Common.{◌≡◌, ℕ, zero, suc, ◌<◌, Bool, true, false, not, List, [], ◌∷◌, length, get_or, is_some, Some, None, Option, sym, refl, arith, MatchOption}
 use mathlib.Core.Path.{fun_ext}
-use Rattle.std.specs.List.{remove, HoldsAt, list_all, AllByRecursion as All}
+use Rattle.std.specs.List.{remove, HoldsAt, list_all, AllByRecursion}
 use Rattle.index_set.specs.Distinct.{is_distinct}
 use Rattle.std.proofs.ByRecursion.{all_from_every}
 use Rattle.std.proofs.lemmas.Bool.{and_parts, not-true}
@@ -12,7 +12,7 @@ use Rattle.stores.specs.Listed.{listed, all_in_bounds}
 use Rattle.stores.specs.Pairs.{in_bounds, without_pair}
 use Rattle.stores.specs.declared.pair.Pair.{Pair}
 
-all_absent : (ps : List Pair) (p : Pair) → All (λ q. alike_pair q p ≡ false) ps → listed ps p.left p.right ≡ false
+all_absent : (ps : List Pair) (p : Pair) → AllByRecursion (λ q. alike_pair q p ≡ false) ps → listed ps p.left p.right ≡ false
 unfolding listed
 all_absent [] p h = refl
 all_absent (q ∷ ps) p h = let f = all_absent ps p h.1 in grind (arith, nat_tests)
@@ -37,7 +37,7 @@ listed_told ps p None b h = sym (listed_absent ps p h)
 listed_told ps p (Some i) b h = sym (listed_found ps p i b h)
 
 -- the first pair of a list of different ones is absent from the rest
-rest_absent : (q : Pair) (ps : List Pair) → list_all (λ z. not (alike_pair q z)) ps ≡ true → All (λ z. alike_pair z q ≡ false) ps
+rest_absent : (q : Pair) (ps : List Pair) → list_all (λ z. not (alike_pair q z)) ps ≡ true → AllByRecursion (λ z. alike_pair z q ≡ false) ps
 rest_absent q [] h = tt
 rest_absent q (z ∷ ps) h =
     let a = and_parts (not (alike_pair q z)) (list_all (λ z. not (alike_pair q z)) ps) h in

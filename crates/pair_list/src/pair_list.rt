@@ -1,11 +1,12 @@
-ghost use Rattle.std.specs.Prelude.{◌≡◌, ℕ, Bool, true, not, ◌&&◌, []};
-ghost use Rattle.index_set.specs.Items.{items_of, Orderly};
-ghost use Rattle.stores.specs.Alike.{alike_pair};
+ghost use Rattle.std.specs.Prelude.{◌≡◌, ℕ, Bool, true, not, ◌&&◌, ◌<◌, ◌≤◌, [], length, MatchResult};
+ghost use Rattle.refusals.specs.declared.refusal.Refusal.TheVariants.{MemoryTooShort};
+ghost use Rattle.index_set.specs.Items.{items_of};
 ghost use Rattle.stores.specs.Bounded.{listed_bounded};
 ghost use Rattle.stores.specs.Listed.{listed, all_in_bounds};
 ghost use Rattle.stores.specs.Pairs.{no_pairs};
 
 use index_set::{IndexSet, Insertion};
+use refusals::Refusal;
 use stores::{LEFTS, Pair, PairSet, RIGHTS};
 
 // So many pairs are in bounds: with as many places a list is never full where one of them is absent.
@@ -15,7 +16,6 @@ pub const PLACES: usize = 2048;
 #[derive(Drop)]
 pub struct PairList<'a> {
     list: IndexSet<'a, Pair>,
-    ghost orderly: { Orderly alike_pair list },
     ghost places: { list.limit ≡ 2048 },
     ghost within: { all_in_bounds (items_of list) ≡ true },
 }
@@ -23,12 +23,19 @@ pub struct PairList<'a> {
 impl<'a> PairList<'a> {
     // The empty set, over an empty list of 2,048 places.
     pub fn new(list: IndexSet<'a, Pair>) -> PairList<'a>
-        requires orderly { Orderly alike_pair list }
         requires places { list.limit ≡ 2048 }
         requires empty { items_of list ≡ [] }
         ensures { listed (items_of result.list) ≡ no_pairs }
     {
         PairList { list }
+    }
+
+    // The empty set over memory of 2,048 places; refused where it has fewer.
+    pub fn over(memory: &'a mut [Pair]) -> Result<PairList<'a>, Refusal>
+        ensures { MatchResult result (λ p. (2048 ≤ length memory.old) × (listed (items_of p.list) ≡ no_pairs)) (λ e. (length memory.old < 2048) × (e ≡ MemoryTooShort)) }
+    {
+        let list = IndexSet::new(memory, PLACES)?;
+        Ok(PairList::new(list))
     }
 }
 

@@ -1,12 +1,16 @@
 -- One field more of a record, its last field, and its fault.
-use Rattle.std.proofs.Common.{◌≡◌, ℕ, ◌+◌, ◌-◌, ◌<◌, ◌≤◌, ◌⊎◌, List, [], ◌∷◌, ◌++◌, map, length, take, drop, set, sym, refl, ap, ◌∙◌, subst, inl, inr, arith, length-append, length-drop}
+use Rattle.std.proofs.Common.{◌≡◌, ℕ, ◌+◌, ◌-◌, ◌<◌, ◌≤◌, ◌⊎◌, List, [], ◌∷◌, ◌++◌, map, length, take, drop, set, Ok, Err, Result, MatchResult, sym, refl, ap, ◌∙◌, subst, inl, inr, arith, length-append, length-drop}
 use Rattle.std.proofs.lemmas.List.{drop-drop, take_rest, take_all, take-append-le, take_more_set, map_push, length_push, length-set}
+use Rattle.std.specs.Result.{IsErrAnd}
+use Rattle.records.specs.Cuts.{CutOf}
+use Rattle.records.specs.declared.fault.Fault.{Fault}
 use Rattle.records.specs.declared.field.Field.{Field}
+use Rattle.records.specs.declared.record.Record.{Record}
 use Rattle.records.specs.declared.scan.Cut.{Cut}
 use Rattle.records.specs.declared.scan.Stop.TheVariants.{Comma, Break, End}
 use Rattle.records.specs.Grammar.{Piece, Opens, Faulty, Amiss, Commas, Whole, Broken, after_break}
 use Rattle.records.specs.Grammar.Faulty.{stray, unclosed, amiss}
-use Rattle.records.specs.Views.{piece, Keeps}
+use Rattle.records.specs.Views.{piece, Keeps, ReadFrom}
 
 -- ---- the fields that are kept
 
@@ -63,6 +67,16 @@ module _ (s : List ℕ) (at : ℕ) (within : at ≤ length s) where
   abbrev CutHere : Cut → Type 0
   CutHere cut = (cut.len ≤ length left) × Opens (at + length left) left (piece cut.field) cut.stop (drop cut.len left)
 
+  -- A reading there, and what is passed on of it: its cut as it is, its fault with another place.
+  module _ {Moves : Fault → Fault → Type 0} (moves : (e f : Fault) → Moves e f → f.at ≡ at + e.at) (x : Result Cut Fault) where
+    pub cut_there : (r : Result Cut Fault) (cut : Cut) → CutOf at left r → MatchResult r (λ v. x ≡ Ok v) (λ e. IsErrAnd x (Moves e)) → x ≡ Ok cut → CutHere cut
+    cut_there (Ok v) cut got is was = let e : Ok v ≡ Ok cut = sym is ∙ was in let same : v ≡ cut = cc in subst CutHere same got
+    cut_there (Err e) cut got is was = absurd (subst (λ y. IsErrAnd y (Moves e)) was is)
+
+    pub fault_there : (r : Result Cut Fault) (fault : Fault) → CutOf at left r → MatchResult r (λ v. x ≡ Ok v) (λ e. IsErrAnd x (Moves e)) → x ≡ Err fault → (k : ℕ) × (fault.at ≡ at + k) × Faulty left k
+    fault_there (Ok v) fault got is was = let e : Ok v ≡ Err fault = sym is ∙ was in cc
+    fault_there (Err e) fault got is was = (e.at, moves e fault (subst (λ y. IsErrAnd y (Moves e)) was is), got)
+
   size : length left ≡ length s - at
   size = ap length (take_rest s at) ∙ length-drop at s
 
@@ -86,10 +100,10 @@ module _ (s : List ℕ) (at : ℕ) (within : at ≤ length s) where
         let (fits, opens) = opened cut got in
         (fits, record { before = fs; last = piece cut.field; stop = cut.stop; rest = drop at s; fields = refl; front = front; ends = opens; stops = λ e. grind arith })
 
-  pub fault_within : (k : ℕ) → Faulty left k → at + k ≤ length s
+  fault_within : (k : ℕ) → Faulty left k → at + k ≤ length s
   fault_within k h = omega (arith, faulty_within left k h, size)
 
-  pub broken : (from : ℕ) (fs : List Piece) (k : ℕ) → Commas (length s) (drop from s) fs (drop at s) → Faulty left k → Broken (length s) (drop from s) (at + k) (after_break (drop (at + k) s))
+  broken : (from : ℕ) (fs : List Piece) (k : ℕ) → Commas (length s) (drop from s) fs (drop at s) → Faulty left k → Broken (length s) (drop from s) (at + k) (after_break (drop (at + k) s))
   broken from fs k front h = record {
     before = fs;
     rest = drop at s;
@@ -99,3 +113,9 @@ module _ (s : List ℕ) (at : ℕ) (within : at ≤ length s) where
     place = omega (arith, length-drop at s);
     onward = ap after_break (sym (drop-drop k at s));
   }
+
+  pub broken_there : (from : ℕ) (fs : List Piece) (kept : List Field) (fault : Fault) (r : Result Record Fault) → Commas (length s) (drop from s) fs (drop at s) → (k : ℕ) × (fault.at ≡ at + k) × Faulty left k → IsErrAnd r (λ e. e ≡ fault) → ReadFrom s from kept r
+  broken_there from fs kept fault (Ok v) front h is = absurd is
+  broken_there from fs kept fault (Err e) front (k, place, h) is =
+      let there : e.at ≡ at + k = ap (λ x. x.at) is ∙ place in
+      subst (λ n. (n ≤ length s) × Broken (length s) (drop from s) n (after_break (drop n s))) (sym there) (fault_within k h, broken from fs k front h)

@@ -1,12 +1,12 @@
 -- What a byte makes of a field, and what is read when the reading halts.
-use Rattle.std.specs.Prelude.{◌≡◌, ℕ, ◌≤◌, Bool, true, false, cond, ◌⊎◌, List, [], ◌∷◌, ◌++◌, length, take, drop, ◌==◌, ◌≢◌, slice_index}
+use Rattle.std.specs.Prelude.{◌≡◌, ℕ, ◌≤◌, Bool, true, false, cond, ◌⊎◌, List, [], ◌∷◌, ◌++◌, length, take, drop, Some, None, Option, ◌==◌, ◌≢◌, slice_index}
 use Rattle.std.specs.List.{AllByRecursion}
 use Rattle.records.specs.declared.scan.State.{State}
 use Rattle.records.specs.declared.scan.State.TheVariants.{Bare, Quoted, AfterQuote}
 use Rattle.records.specs.declared.scan.Step.{Step}
 use Rattle.records.specs.declared.scan.Step.TheVariants as to
-use Rattle.records.specs.declared.scan.Halt.{Halt}
-use Rattle.records.specs.declared.scan.Halt.TheVariants as by
+use Rattle.records.specs.declared.scan.Stop.{Stop}
+use Rattle.records.specs.declared.scan.Stop.TheVariants as by
 use Rattle.records.specs.declared.scan.Run.{Run}
 use Rattle.records.specs.Grammar.{Plain, Doubled}
 
@@ -32,15 +32,15 @@ Wrong Bare b t = (b ≡ 34) ⊎ ((b ≡ 10) ⊎ ((b ≡ 13) × (slice_index t 0 
 Wrong Quoted b t = ⊥
 Wrong AfterQuote b t = (b ≢ 44) × (b ≢ 34) × (b ≡ 13 → slice_index t 0 ≢ 10)
 
--- what stands where the reading halts
-abbrev pub Halts : Halt → State → List ℕ → Type 0
-Halts by.Comma s rest = (t : List ℕ) × (rest ≡ 44 ∷ t) × (s ≢ Quoted)
-Halts by.Break s rest = (t : List ℕ) × (rest ≡ 13 ∷ 10 ∷ t) × (s ≢ Quoted)
-Halts by.End s rest = rest ≡ []
-Halts by.Fault s rest = (b : ℕ) × (t : List ℕ) × (rest ≡ b ∷ t) × Wrong s b t
+-- what stands where the reading halts: what ends the field, or a byte at fault
+abbrev pub Halts : Option Stop → State → List ℕ → Type 0
+Halts (Some by.Comma) s rest = (t : List ℕ) × (rest ≡ 44 ∷ t) × (s ≢ Quoted)
+Halts (Some by.Break) s rest = (t : List ℕ) × (rest ≡ 13 ∷ 10 ∷ t) × (s ≢ Quoted)
+Halts (Some by.End) s rest = rest ≡ []
+Halts None s rest = (b : ℕ) × (t : List ℕ) × (rest ≡ b ∷ t) × Wrong s b t
 
 pub record Ran (start : State) (bs : List ℕ) (r : Run) : Type 0 where
   pub within : r.at ≤ length bs
   pub kind : is_quoted r.state ≡ is_quoted start
   pub read : Read r.state (take r.at bs)
-  pub halts : Halts r.halt r.state (drop r.at bs)
+  pub halts : Halts r.stop r.state (drop r.at bs)

@@ -3,6 +3,7 @@ use Rattle.std.specs.Prelude.{◌≡◌, ℕ, ◌<◌, ◌≤◌, List, map, len
 use Rattle.refusals.specs.declared.refusal.Refusal.{Refusal}
 use Rattle.refusals.specs.declared.refusal.Refusal.TheVariants.{TextTooLong, MalformedRecord}
 use Rattle.records.specs.declared.cursor.Records.{Records}
+use Rattle.records.specs.declared.fault.Fault.{Fault}
 use Rattle.records.specs.declared.field.Field.{Field}
 use Rattle.records.specs.declared.field.Field.TheVariants.{Bare, Quoted}
 use Rattle.records.specs.declared.record.Record.{Record}
@@ -27,10 +28,10 @@ piece (Quoted part at) = quoted part.now at
 abbrev pub Keeps : ℕ → List Field → List Piece → Type 0
 Keeps count kept fs = (count ≡ length fs) × (map piece (take count kept) ≡ take 40 fs)
 
--- what is read of a text at the place from: a record, or the place of the byte at fault
-abbrev pub ReadFrom : List ℕ → ℕ → List Field → Result Record ℕ → Type 0
+-- what is read of a text at the place from: a record, or the byte at fault
+abbrev pub ReadFrom : List ℕ → ℕ → List Field → Result Record Fault → Type 0
 ReadFrom text from kept (Ok r) = (r.start ≡ from) × (r.next ≤ length text) × ((fs : List Piece) × Keeps r.count kept fs × Whole (length text) (drop from text) fs (drop r.next text))
-ReadFrom text from kept (Err bad) = (bad ≤ length text) × Broken (length text) (drop from text) bad (after_break (drop bad text))
+ReadFrom text from kept (Err e) = (e.at ≤ length text) × Broken (length text) (drop from text) e.at (after_break (drop e.at text))
 
 -- a cursor at the beginning of the text, or refusal 3 where it has more than 32,768 bytes
 abbrev pub Admits : List ℕ → Result Records Refusal → Type 0

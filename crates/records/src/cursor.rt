@@ -27,7 +27,8 @@ impl<'a> Records<'a> {
         Ok(Records { text, at: 0 })
     }
 
-    // The next record, its first fields in `fields`, or its fault; nothing at the end of the text.
+    // The next record, its first fields in `fields`, or its fault; nothing at the end of the text. That the text stays, and
+    // how long the array is, are clauses, here and above: no type tells a clause either.
     pub fn next(&mut self, fields: &mut [Field<'a>; KEPT_FIELDS]) -> Option<Result<Record, Refusal>>
         ensures text { self.new.text ≡ self.old.text }
         ensures room { length fields.new ≡ 40 }
@@ -42,15 +43,16 @@ impl<'a> Records<'a> {
                 self.at = record.next;
                 Some(Ok(record))
             }
-            Err(at) => {
-                self.at = behind_break(self.text, at);
-                Some(Err(Refusal::MalformedRecord { at }))
+            Err(fault) => {
+                self.at = behind_break(self.text, fault.at);
+                Some(Err(Refusal::from(fault)))
             }
         }
     }
 }
 
 // How many records and faults a text has.
+// Counted in a loop: each record goes into the lent fields, which no iterator could hand out again.
 pub fn count_lines(text: &[u8]) -> Result<usize, Refusal>
     ensures { Counted text.now result }
 {

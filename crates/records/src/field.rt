@@ -14,8 +14,7 @@ impl<'a> Field<'a> {
         ensures { result.now ≡ value_of self.entry }
     {
         match self {
-            Field::Bare { part, .. } => part,
-            Field::Quoted { part, .. } => part,
+            Field::Bare { part, .. } | Field::Quoted { part, .. } => part,
         }
     }
 
@@ -23,8 +22,7 @@ impl<'a> Field<'a> {
         ensures { result ≡ place_of self.entry }
     {
         match self {
-            Field::Bare { at, .. } => at,
-            Field::Quoted { at, .. } => at,
+            Field::Bare { at, .. } | Field::Quoted { at, .. } => at,
         }
     }
 }

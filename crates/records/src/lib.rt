@@ -3,6 +3,7 @@
 #![tactic(auto)]
 
 mod cursor;
+mod fault;
 mod field;
 mod read;
 mod record;

@@ -1,11 +1,18 @@
 // One record of a text, and where reading goes on behind a fault.
-ghost use Rattle.std.specs.Prelude.{◌≡◌, ◌≤◌, length, drop};
+ghost use Rattle.std.specs.Prelude.{◌≡◌, ◌≤◌, [], ◌∷◌, length, drop, Decides};
 ghost use Rattle.records.specs.Grammar.{after_break};
 ghost use Rattle.records.specs.Views.{ReadFrom};
 
+use crate::fault::Fault;
 use crate::field::Field;
 use crate::record::{KEPT_FIELDS, Record};
 use crate::scan::{Stop, front_field};
+
+fn is_break(pair: &[u8]) -> bool
+    ensures { Decides result (pair.now ≡ 13 ∷ 10 ∷ []) }
+{
+    matches!(pair, b"\r\n")
+}
 
 // The place behind the first line break at or behind `from`, or the end of the text.
 pub fn behind_break(text: &[u8], from: usize) -> usize
@@ -13,22 +20,19 @@ pub fn behind_break(text: &[u8], from: usize) -> usize
     ensures within { result ≤ length text.now }
     ensures behind { drop result text.now ≡ after_break (drop from text.now) }
 {
-    let mut at = from;
-    while at < text.len() {
-        if text[at] == b'\r' && at + 1 < text.len() && text[at + 1] == b'\n' {
-            return at + 2;
-        }
-        at += 1;
+    match text[from..].windows(2).position(is_break) {
+        Some(n) => from + n + 2,
+        None => text.len(),
     }
-    at
 }
 
-// The record that begins at `from`, its first fields in `fields`; an error is the place of the byte at fault.
+// The record that begins at `from`, its first fields in `fields`, or the byte at fault.
+// The count and the place go on behind the fields that are kept, and are told in the record.
 pub fn read_record<'a>(
     text: &'a [u8],
     from: usize,
     fields: &mut [Field<'a>; KEPT_FIELDS],
-) -> Result<Record, usize>
+) -> Result<Record, Fault>
     requires { from ≤ length text.now }
     ensures room { length fields.new ≡ 40 }
     ensures reads { ReadFrom text.now from fields.new result }
@@ -36,25 +40,21 @@ pub fn read_record<'a>(
     let mut count = 0;
     let mut at = from;
     loop {
-        match front_field(&text[at..], at) {
-            Ok(cut) => {
-                if count < KEPT_FIELDS {
-                    fields[count] = cut.field;
-                }
-                count += 1;
-                at += cut.len;
-                match cut.stop {
-                    Stop::Comma => {}
-                    Stop::Break | Stop::End => {
-                        return Ok(Record {
-                            count,
-                            start: from,
-                            next: at,
-                        });
-                    }
-                }
+        let cut = front_field(&text[at..], at).map_err(|fault| Fault { at: at + fault.at })?;
+        if count < KEPT_FIELDS {
+            fields[count] = cut.field;
+        }
+        count += 1;
+        at += cut.len;
+        match cut.stop {
+            Stop::Comma => {}
+            Stop::Break | Stop::End => {
+                return Ok(Record {
+                    count,
+                    start: from,
+                    next: at,
+                });
             }
-            Err(n) => return Err(at + n),
         }
     }
 }

@@ -1,8 +1,9 @@
 // The field at the front of what is left of a text, byte by byte.
 ghost use Rattle.std.specs.Prelude.{◌≡◌, ◌+◌, ◌^◌, ◌<◌, []};
-ghost use Rattle.records.specs.Cuts.{cut_of, CutOf};
+ghost use Rattle.records.specs.Cuts.{stop_len, cut_of, CutOf};
 ghost use Rattle.records.specs.Steps.{step_of, Read, Ran};
 
+use crate::fault::Fault;
 use crate::field::Field;
 
 #[derive(Clone, Copy)]
@@ -21,28 +22,34 @@ enum Step {
     Fault,
 }
 
-#[derive(Clone, Copy)]
-enum Halt {
-    Comma,
-    Break,
-    End,
-    Fault,
-}
-
-// The place where the reading of a field halted, in which state and at what.
-#[derive(Clone, Copy)]
-struct Run {
-    at: usize,
-    state: State,
-    halt: Halt,
-}
-
 // What ends a field: a comma, a line break or the end of the text.
 #[derive(Clone, Copy)]
 pub enum Stop {
     Comma,
     Break,
     End,
+}
+
+impl Stop {
+    // How many bytes it has.
+    fn len(self) -> usize
+        ensures { result ≡ stop_len self }
+    {
+        match self {
+            Stop::Comma => 1,
+            Stop::Break => 2,
+            Stop::End => 0,
+        }
+    }
+}
+
+// The place where the reading of a field halted, in which state, and what ends the field there; none where the byte
+// there is at fault.
+#[derive(Clone, Copy)]
+struct Run {
+    at: usize,
+    state: State,
+    stop: Option<Stop>,
 }
 
 // A field, what ends it, and how many bytes the two take.
@@ -83,89 +90,59 @@ fn read_on(bytes: &[u8], start: State) -> Run
     ensures { Ran start bytes.now result }
 {
     let mut state = start;
-    let mut at = 0;
-    while at < bytes.len() {
-        match take_step(state, bytes[at]) {
-            Step::On(next) => state = next,
-            Step::Comma => {
-                return Run {
-                    at,
-                    state,
-                    halt: Halt::Comma,
-                };
+    for (at, &b) in bytes.iter().enumerate() {
+        let stop = match take_step(state, b) {
+            Step::On(next) => {
+                state = next;
+                continue;
             }
-            Step::Cr => {
-                let halt = if at + 1 < bytes.len() && bytes[at + 1] == b'\n' {
-                    Halt::Break
-                } else {
-                    Halt::Fault
-                };
-                return Run { at, state, halt };
-            }
-            Step::Fault => {
-                return Run {
-                    at,
-                    state,
-                    halt: Halt::Fault,
-                };
-            }
-        }
-        at += 1;
+            Step::Comma => Some(Stop::Comma),
+            Step::Cr if bytes.get(at + 1) == Some(&b'\n') => Some(Stop::Break),
+            Step::Cr | Step::Fault => None,
+        };
+        return Run { at, state, stop };
     }
     Run {
-        at,
+        at: bytes.len(),
         state,
-        halt: Halt::End,
+        stop: Some(Stop::End),
     }
 }
 
-// What becomes of a field of `len` bytes, by what halted its reading there; an error is the place at fault.
-fn end_field<'a>(field: Field<'a>, halt: Halt, len: usize) -> Result<Cut<'a>, usize>
+// The field of `len` bytes with what ends it, or the byte at fault where nothing does.
+fn end_field<'a>(field: Field<'a>, stop: Option<Stop>, len: usize) -> Result<Cut<'a>, Fault>
     requires { len + 2 < 2 ^ 64 }
-    ensures { result ≡ cut_of field.entry halt len }
+    ensures { result ≡ cut_of field.entry stop len }
 {
-    match halt {
-        Halt::Comma => Ok(Cut {
+    match stop {
+        Some(stop) => Ok(Cut {
             field,
-            stop: Stop::Comma,
-            len: len + 1,
+            stop,
+            len: len + stop.len(),
         }),
-        Halt::Break => Ok(Cut {
-            field,
-            stop: Stop::Break,
-            len: len + 2,
-        }),
-        Halt::End => Ok(Cut {
-            field,
-            stop: Stop::End,
-            len,
-        }),
-        Halt::Fault => Err(len),
+        None => Err(Fault { at: len }),
     }
 }
 
 // The field at the front of `rest`, which is what is left of a text at the place `at`.
-// An error says how far behind that place the byte at fault stands.
-pub fn front_field<'a>(rest: &'a [u8], at: usize) -> Result<Cut<'a>, usize>
+pub fn front_field<'a>(rest: &'a [u8], at: usize) -> Result<Cut<'a>, Fault>
     ensures { CutOf at rest.now result }
 {
     match rest {
         [b'"', inner @ ..] => {
             let ran = read_on(inner, State::Quoted);
-            let end = ran.at;
             match ran.state {
                 State::AfterQuote => {
-                    let part = &inner[0..end - 1];
-                    end_field(Field::Quoted { part, at }, ran.halt, end + 1)
+                    let part = &inner[..ran.at - 1];
+                    end_field(Field::Quoted { part, at }, ran.stop, ran.at + 1)
                 }
-                _ => Err(rest.len()),
+                State::Bare | State::Quoted => Err(Fault { at: rest.len() }),
             }
         }
         _ => {
             let ran = read_on(rest, State::Bare);
-            let end = ran.at;
-            let part = &rest[0..end];
-            end_field(Field::Bare { part, at }, ran.halt, end)
+            let part = &rest[..ran.at];
+            end_field(Field::Bare { part, at }, ran.stop, ran.at)
         }
     }
 }

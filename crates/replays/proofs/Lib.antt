@@ -1,5 +1,5 @@
 mod Places
 mod Tying
-mod Sounding
+mod Looking
 mod Agreement
 mod Opening

@@ -1,7 +1,6 @@
 -- What a call does to the tie between the leases that are held and those that are out.
 use Rattle.std.proofs.Common.{◌≡◌, ℕ, ◌<◌, Bool, true, false, cond, not, ◌&&◌, eqb, is_some, Some, None, Option, sym, refl, ap, ◌∙◌, arith}
-use Rattle.refusals.specs.declared.answer.Answer.{Answer}
-use Rattle.refusals.specs.declared.answer.Answer.TheVariants.{Accepted, Granted, Denied, Refused}
+use Rattle.refusals.specs.declared.answer.Answer.TheVariants.{Accepted, Refused}
 use Rattle.refusals.specs.declared.refusal.Refusal.{Refusal}
 use Rattle.refusals.specs.declared.refusal.Refusal.TheVariants.{InvalidLease, NoSuchNumber, NotAdministrator, LeaseOut}
 use Rattle.rules.specs.Judging.{valid, judge, effect, commit, after}
@@ -29,19 +28,6 @@ Tie d s h = Tied d.number s.lease h
 -- the same draft and leases
 pub tie_same : (d e : Draft) (s t : State) (h : ℕ → Option LeaseNumbers) → e ≡ d → t.lease ≡ s.lease → Tie d s h → Tie e t h
 tie_same d e s t h p q tie u = (λ i. is_tied (p i).number u (q i u) (h u)) ∙ tie u
-
-still : (a : Answer) (s t : State) → t.lease ≡ s.lease → (commit a s t).lease ≡ s.lease
-still Accepted s t e = e
-still Granted s t e = refl
-still Denied s t e = refl
-still (Refused g) s t e = refl
-
--- a call that concerns no lease, whatever its answer
-pub tie_kept : (d e : Draft) (s t : State) (a : Answer) (c : Call) (h : ℕ → Option LeaseNumbers) → (effect s c).lease ≡ s.lease → e ≡ d → t ≡ commit a s (effect s c) → Tie d s h → Tie e t h
-tie_kept d e s t a c h k p q = tie_same d e s t h p (ap (λ (x : State). x.lease) q ∙ still a s (effect s c) k)
-
-pub tie_refused : (d e : Draft) (s t : State) (c : Call) (g : Refusal) (h : ℕ → Option LeaseNumbers) → Refused g ≡ judge d s c → e ≡ d → t ≡ after d s c → Tie d s h → Tie e t h
-tie_refused d e s t c g h k p q = tie_same d e s t h p (ap (λ (x : State). x.lease) (q ∙ ap (λ a. commit a s (effect s c)) (sym k)))
 
 -- one lease more, and one lease less
 more_tied : (n u v w : ℕ) (o : Option ℕ) (p : Option LeaseNumbers) → is_tied n u o p ≡ true
@@ -86,12 +72,11 @@ validity d s h k tie = valid_held d.number k (s.lease k.unit) (h k.unit) (tie k.
 pub record Stale (d : Draft) (s : State) (k : LeaseNumbers) : Type 0 where
   pub assign : (x : Spot) → Refused InvalidLease ≡ judge d s (Assign k x)
   pub revoke : (x : Spot) → Refused InvalidLease ≡ judge d s (Revoke k x)
-  pub release : Refused InvalidLease ≡ judge d s (Release k)
 
 pub stale : (d : Draft) (s : State) (h : ℕ → Option LeaseNumbers) (k : LeaseNumbers) → Tie d s h → is_lease (h k.unit) k ≡ false → Stale d s k
 stale d s h k tie f =
     let e : valid d s k ≡ false = validity d s h k tie ∙ f in
-    record { assign = λ x. grind (arith, nat_tests); revoke = λ x. grind (arith, nat_tests); release = grind (arith, nat_tests) }
+    record { assign = λ x. grind (arith, nat_tests); revoke = λ x. grind (arith, nat_tests) }
 
 pub unchanged : (d : Draft) (s : State) (c : Call) (g : Refusal) → Refused g ≡ judge d s c → s ≡ after d s c
 unchanged d s c g e = ap (λ a. commit a s (effect s c)) e

@@ -1,5 +1,5 @@
 -- What two runs from the same draft have in common.
-use Rattle.std.specs.Prelude.{◌≡◌, ℕ, Bool, false, List, Ok, vec_items}
+use Rattle.std.specs.Prelude.{◌≡◌, ℕ, false, List, Ok, vec_items}
 use Rattle.house.specs.Views.{state_of}
 use Rattle.rules.specs.States.{State}
 use Rattle.rules.specs.declared.call.Call.{Call}
@@ -22,9 +22,8 @@ pub record Agreed (calls others : List Call) (h k : List Event) (s t : State) : 
   -- the same calls of every unit, in whatever order among the units
   pub by_unit : ((u : ℕ) → calls_of u calls ≡ calls_of u others) → has_25 h ≡ false → has_25 k ≡ false → Alike h k s t
 
-pub record Compared {S T U V : Type 0} (a : S → ℕ → ℕ → Bool) (b : T → ℕ → ℕ → Bool) (c : U → ℕ → ℕ → Bool) (e : V → ℕ → ℕ → Bool)
-    (d : Draft) (calls others : List Call) (r : Comparison S T U V) : Type 0 where
-  pub one : Played a b d calls r.one
-  pub two : Played c e d others r.two
+pub record Compared {S T U V : Type 0} {g h k l : _} (d : Draft) (calls others : List Call) (r : Comparison S T U V g h k l) : Type 0 where
+  pub one : Played d calls r.one
+  pub two : Played d others r.two
   pub agreed : (v w : _) → r.one.history ≡ Ok v → r.two.history ≡ Ok w
-      → Agreed calls others (vec_items v) (vec_items w) (state_of a b r.one.house) (state_of c e r.two.house)
+      → Agreed calls others (vec_items v) (vec_items w) (state_of r.one.house) (state_of r.two.house)

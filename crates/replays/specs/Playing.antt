@@ -1,5 +1,5 @@
 -- What comes of a run of a house.
-use Rattle.std.specs.Prelude.{◌≡◌, ℕ, Bool, true, List, Err, vec_items, MatchResult}
+use Rattle.std.specs.Prelude.{◌≡◌, ℕ, true, List, Err, vec_items, MatchResult}
 use Rattle.house.specs.Views.{draft_of, state_of, leases_out}
 use Rattle.lawful.specs.Checking.{is_lawful, checked}
 use Rattle.rules.specs.States.{State, opened}
@@ -25,8 +25,8 @@ abbrev pub NotRun : Draft → Draft → State → Failure → Type 0
 NotRun d e s (Refused g) = (checked d ≡ Err g) × Empty e × (s ≡ opened e)
 NotRun d e s NoMemory = (is_lawful d ≡ true) × (e ≡ d) × (s ≡ opened d)
 
--- what a run with the draft d and the calls left: left and right say what a set of each make means
-pub record Played {S T : Type 0} (left : S → ℕ → ℕ → Bool) (right : T → ℕ → ℕ → Bool) (d : Draft) (calls : List Call) (r : Run S T) : Type 0 where
-  pub run : MatchResult r.history (λ v. Ran d calls (draft_of r.house) (vec_items v) (state_of left right r.house)) (NotRun d (draft_of r.house) (state_of left right r.house))
+-- what a run with the draft d and the calls left
+pub record Played {S T : Type 0} {g h : _} (d : Draft) (calls : List Call) (r : Run S T g h) : Type 0 where
+  pub run : MatchResult r.history (λ v. Ran d calls (draft_of r.house) (vec_items v) (state_of r.house)) (NotRun d (draft_of r.house) (state_of r.house))
   -- the leases handed back are those that are out
   pub held : (u : ℕ) → held_of r.held u ≡ lease_for (draft_of r.house).number u (leases_out r.house u)

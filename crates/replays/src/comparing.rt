@@ -9,7 +9,7 @@ use stores::PairSet;
 use tables::Draft;
 
 // What two runs from the same draft left.
-pub struct Comparison<S, T, U, V> {
+pub struct Comparison<S: PairSet, T: PairSet, U: PairSet, V: PairSet> {
     pub one: Run<S, T>,
     pub two: Run<U, V>,
 }
@@ -25,7 +25,7 @@ pub fn compare<S: PairSet, T: PairSet, U: PairSet, V: PairSet>(
     two: Stores<U, V>,
     others: &[Call],
 ) -> Comparison<S, T, U, V>
-    ensures { Compared S.PairSet.pairs T.PairSet.pairs U.PairSet.pairs V.PairSet.pairs draft.now calls.now others.now result }
+    ensures { Compared draft.now calls.now others.now result }
 {
     Comparison {
         one: replay(heap, one, draft, calls),

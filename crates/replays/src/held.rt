@@ -4,17 +4,11 @@ ghost use Rattle.replays.specs.Holding.{held_of, numbers_in, with_held, none_hel
 use house::Lease;
 use house_parts::UNITS;
 use rules::LeaseNumbers;
+use std::array;
 
 // Leases that are held, at most one for each unit. It can be neither copied nor let go, as the leases in it.
 pub struct HeldLeases {
-    by_unit: [Option<Lease>; 16],
-}
-
-// Whether the two are the same three numbers.
-fn is_same(one: LeaseNumbers, two: LeaseNumbers) -> bool
-    ensures { result ≡ same_numbers one two }
-{
-    one.house == two.house && one.unit == two.unit && one.user == two.user
+    by_unit: [Option<Lease>; UNITS as usize],
 }
 
 impl HeldLeases {
@@ -22,23 +16,7 @@ impl HeldLeases {
         ensures { held_of result ≡ none_held }
     {
         HeldLeases {
-            by_unit: [
-                None, None, None, None, None, None, None, None, None, None, None, None, None, None,
-                None, None,
-            ],
-        }
-    }
-
-    // Whether the lease with these numbers is held.
-    fn has(&self, numbers: LeaseNumbers) -> bool
-        ensures { result ≡ is_lease (held_of self.now numbers.unit) numbers }
-    {
-        if numbers.unit >= UNITS {
-            return false;
-        }
-        match &self.by_unit[numbers.unit as usize] {
-            Some(lease) => is_same(lease.numbers(), numbers),
-            None => false,
+            by_unit: array::from_fn(|_unit| None),
         }
     }
 
@@ -50,14 +28,8 @@ impl HeldLeases {
             return None;
         }
         match &self.by_unit[numbers.unit as usize] {
-            Some(lease) => {
-                if is_same(lease.numbers(), numbers) {
-                    Some(lease)
-                } else {
-                    None
-                }
-            }
-            None => None,
+            Some(lease) if lease.numbers() == numbers => Some(lease),
+            _ => None,
         }
     }
 
@@ -78,14 +50,14 @@ impl HeldLeases {
         ensures answer { numbers_in result ≡ (if is_lease (held_of self.old numbers.unit) numbers then Some numbers else None) }
         ensures after { held_of self.new ≡ (if is_lease (held_of self.old numbers.unit) numbers then with_held (held_of self.old) numbers.unit None else held_of self.old) }
     {
-        if !self.has(numbers) {
+        if self.get(numbers).is_none() {
             return None;
         }
         self.by_unit[numbers.unit as usize].take()
     }
 
     // The leases, by unit, for whoever gives them back.
-    pub fn into_leases(self) -> [Option<Lease>; 16]
+    pub fn into_leases(self) -> [Option<Lease>; UNITS as usize]
         ensures { result ≡ self.by_unit }
     {
         let HeldLeases { by_unit } = self;

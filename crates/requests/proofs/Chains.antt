@@ -1,6 +1,6 @@
 -- The calls of a change, one after another.
 use Rattle.std.proofs.Common.{◌≡◌, ℕ, true, false, ◌∷◌, is_ok, Ok, Err, Result, sym, refl, ap, ◌∙◌}
-use Rattle.answers.specs.Said.{said}
+use Rattle.refusals.specs.Said.{said}
 use Rattle.refusals.specs.declared.answer.Answer.{Answer}
 use Rattle.refusals.specs.declared.answer.Answer.TheVariants.{Accepted}
 use Rattle.refusals.specs.declared.refusal.Refusal.{Refusal}
@@ -16,13 +16,9 @@ use Rattle.requests.specs.Answering.{or_refused, outcome}
 use Rattle.requests.specs.Calls.{change_call, lease_for, if_accepted, under_lease, change_calls}
 use Rattle.requests.specs.declared.asked.Change.{Change as Way}
 
--- a call whose way and spot are told
-module _ (d : Draft) (s : State) (way as_way : Way) (k : LeaseNumbers) (x as_spot : Spot) (p : way ≡ as_way) (q : x ≡ as_spot) where
-  pub call_answer : (a : Answer) → a ≡ judge d s (change_call as_way k as_spot) → a ≡ judge d s (change_call way k x)
-  call_answer a e = e ∙ (λ i. judge d s (change_call (sym p i) k (sym q i)))
-
-  pub call_left : (t : State) → t ≡ after d s (change_call as_way k as_spot) → t ≡ after d s (change_call way k x)
-  call_left t e = e ∙ (λ i. after d s (change_call (sym p i) k (sym q i)))
+-- a call whose way is told
+pub call_left : (d : Draft) (s : State) (way as_way : Way) (k : LeaseNumbers) (x : Spot) → way ≡ as_way → (t : State) → t ≡ after d s (change_call as_way k x) → t ≡ after d s (change_call way k x)
+call_left d s way as_way k x p t e = e ∙ ap (λ w. after d s (change_call w k x)) (sym p)
 
 -- the first of two refusals
 pub first_refused : (b c r : Result Unit Refusal) → is_ok b ≡ false → said r ≡ said b → said r ≡ or_refused (said b) (said c)

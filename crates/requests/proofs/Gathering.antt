@@ -1,6 +1,7 @@
 -- The row of the numbers that a set holds.
-use Rattle.std.proofs.Common.{◌≡◌, ℕ, zero, suc, ◌<◌, ◌≤◌, Bool, true, false, cond, ◌&&◌, ltb, sym, refl, ap, ◌∙◌, arith}
+use Rattle.std.proofs.Common.{◌≡◌, ℕ, zero, suc, ◌+◌, ◌<◌, ◌≤◌, Bool, true, false, cond, sym, refl, ap, ◌∙◌, subst, add-one, arith}
 use mathlib.Core.Path.{fun_ext}
+use Rattle.conditions.proofs.Gathering.{Gathered, none_gathered, one_more, none_more}
 use Rattle.rows.specs.Numbers.{no_numbers, in_row, with_number}
 use Rattle.rows.specs.Rows.{numbers, row_with}
 use Rattle.rows.specs.declared.row.Row.{Row}
@@ -18,30 +19,15 @@ numbers_with s n h = by (numbers s n) refl
     by true e = ap numbers (row_there s n e) ∙ sym (with_there (numbers s) n e)
     by false e = flip_in s (row_with s n) n h (row_absent s n h e) e
 
--- the numbers of s are those below n of which f says true
-abbrev HoldsBelow : (ℕ → Bool) → (ℕ → Bool) → ℕ → Type 0
-HoldsBelow s f n = (k : ℕ) → s k ≡ (ltb k n && f k)
-
-none_below : (f : ℕ → Bool) → HoldsBelow no_numbers f 0
-unfolding no_numbers
-none_below f k = grind (arith, nat_tests)
-
-one_more : (s f : ℕ → Bool) (n : ℕ) → n < 32 → f n ≡ true → HoldsBelow s f n → HoldsBelow (with_number s n) f (suc n)
-unfolding with_number
-one_more s f n h e i k = let j = i k in let o : n ≡ k → f n ≡ f k = ap f in grind (arith, nat_tests)
-
-none_more : (s f : ℕ → Bool) (n : ℕ) → f n ≡ false → HoldsBelow s f n → HoldsBelow s f (suc n)
-none_more s f n e i k = let j = i k in let o : n ≡ k → f n ≡ f k = ap f in grind (arith, nat_tests)
-
-gathered_holds : (f : ℕ → Bool) (n : ℕ) → n ≤ 32 → HoldsBelow (numbers (gathered_below f n)) f n
+gathered_holds : (f : ℕ → Bool) (n : ℕ) → n ≤ 32 → Gathered (numbers (gathered_below f n)) f n
 unfolding gathered_below
-gathered_holds f zero h = λ k. ap (λ s. s k) bits_none ∙ none_below f k
-gathered_holds f (suc n) h = by (f n) refl (gathered_holds f n (omega arith))
+gathered_holds f zero h = λ k. ap (λ s. s k) bits_none ∙ none_gathered no_numbers f refl k
+gathered_holds f (suc n) h = subst (λ m. Gathered (numbers (cond (f n) (row_with (gathered_below f n) n) (gathered_below f n))) f m) (rw add-one refl) (by (f n) refl (gathered_holds f n (omega arith)))
   where
-    by : (b : Bool) → f n ≡ b → HoldsBelow (numbers (gathered_below f n)) f n
-        → HoldsBelow (numbers (cond b (row_with (gathered_below f n) n) (gathered_below f n))) f (suc n)
-    by true e i = λ k. ap (λ s. s k) (numbers_with (gathered_below f n) n (omega arith)) ∙ one_more (numbers (gathered_below f n)) f n (omega arith) e i k
-    by false e i = none_more (numbers (gathered_below f n)) f n e i
+    by : (b : Bool) → f n ≡ b → Gathered (numbers (gathered_below f n)) f n
+        → Gathered (numbers (cond b (row_with (gathered_below f n) n) (gathered_below f n))) f (n + 1)
+    by true e i = λ k. ap (λ s. s k) (numbers_with (gathered_below f n) n (omega arith)) ∙ one_more (numbers (gathered_below f n)) (with_number (numbers (gathered_below f n)) n) f n (omega arith) i e refl k
+    by false e i = none_more (numbers (gathered_below f n)) (numbers (gathered_below f n)) f n i e refl
 
 -- the row of a set of numbers below 32 holds exactly these
 pub gathered_is : (f : ℕ → Bool) → ((k : ℕ) → f k ≡ true → in_row k ≡ true) → numbers (gathered f) ≡ f

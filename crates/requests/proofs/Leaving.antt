@@ -1,6 +1,5 @@
 -- What calls and openings leave of a site.
-use Rattle.std.proofs.Common.{◌≡◌, ℕ, Bool, true, false, cond, List, [], ◌∷◌, is_ok, Ok, Err, Result, sym, refl, ap, ◌∙◌, arith}
-use Rattle.answers.specs.Said.{said}
+use Rattle.std.proofs.Common.{◌≡◌, ℕ, Bool, true, false, cond, List, [], ◌∷◌, is_ok, Result, sym, refl, ap, ◌∙◌}
 use Rattle.conditions.specs.declared.window.Window.{Window}
 use Rattle.house.specs.Views.{opening}
 use Rattle.refusals.specs.declared.answer.Answer.{Answer}
@@ -55,7 +54,3 @@ opened_to p d r house t e f g = by (is_ok r) f g ∙ ap (λ x. cond (is_ok x) (h
     by : (b : Bool) → house ≡ cond b d p.house → t ≡ cond b (opened d) p.state → housed p house t ≡ cond b (housed p d (opened d)) p
     by true f g = λ i. housed p (f i) (g i)
     by false f g = λ i. housed p (f i) (g i)
-
-pub accepted_ok : (r : Result Unit Refusal) → said r ≡ Accepted → is_ok r ≡ true
-accepted_ok (Ok u) e = refl
-accepted_ok (Err g) e = absurd (let z : ◌≡◌ {A = ℕ} 0 1 = cc in omega arith)

@@ -1,12 +1,12 @@
 -- What the three calls of a change come to, and that no request leaves a lease out.
 use Rattle.std.proofs.Common.{◌≡◌, ℕ, Bool, true, false, cond, not, ◌&&◌, eqb, ◌⊎◌, List, [], ◌∷◌, is_some, Some, None, Option, sym, refl, ap, ◌∙◌, inl, inr, ⊎_elim, arith}
 use mathlib.Core.Path.{fun_ext}
+use Rattle.house.specs.Views.{with_pairs}
 use Rattle.refusals.specs.declared.answer.Answer.{Answer}
 use Rattle.refusals.specs.declared.answer.Answer.TheVariants.{Accepted, Granted, Denied, Refused}
 use Rattle.refusals.specs.declared.refusal.Refusal.{Refusal}
 use Rattle.refusals.specs.declared.refusal.Refusal.TheVariants.{InvalidLease}
 use Rattle.rules.specs.Judging.{tests, first_reason, judge, effect, commit, after}
-use Rattle.rules.specs.Spots.{Pairs}
 use Rattle.rules.specs.States.{State, with_at, is_for}
 use Rattle.rules.specs.declared.call.Call.{Call}
 use Rattle.rules.specs.declared.call.Event.{Event}
@@ -57,9 +57,6 @@ change_settled d s Assign k x = settled (tests d s (Call.Assign k x))
 change_settled d s Revoke k x = settled (tests d s (Call.Revoke k x))
 
 -- it changes pairs only
-abbrev with_pairs : State → Pairs → State
-with_pairs s q = record { pairs = q; held = s.held; lease = s.lease; session = s.session; active = s.active }
-
 change_effect : (s : State) (way : Way) (k : LeaseNumbers) (x : Spot) → effect s (change_call way k x) ≡ with_pairs s (changed_pairs way s.pairs x)
 change_effect s Assign k x = refl
 change_effect s Revoke k x = refl

@@ -1,6 +1,6 @@
 -- How a request is answered, and what it leaves.
 use Rattle.std.specs.Prelude.{cond, ◌&&◌, List, [], ◌∷◌, is_ok}
-use Rattle.answers.specs.Said.{said}
+use Rattle.refusals.specs.Said.{said}
 use Rattle.conditions.specs.Clocks.{moved}
 use Rattle.conditions.specs.Limits.{is_minute, is_window, accepted_if}
 use Rattle.house.specs.Views.{opening}

@@ -4,7 +4,7 @@ use Rattle.conditions.specs.Clocks.{minute_of, windows_of, no_windows, timed_at,
 use Rattle.conditions.specs.Limits.{is_condition}
 use Rattle.conditions.specs.Sources.{sensed, with_report, split_at}
 use Rattle.conditions.specs.declared.window.Window.{Window}
-use Rattle.house.specs.Views.{draft_of, state_of, Sound}
+use Rattle.house.specs.Views.{draft_of, state_of}
 use Rattle.rows.specs.Numbers.{no_numbers}
 use Rattle.rules.specs.States.{State, opened}
 use Rattle.tables.specs.declared.draft.Draft.{Draft}
@@ -22,11 +22,11 @@ pub record Premises : Type 0 where
   pub windows : ℕ → Window
 
 -- a site, by what the two sets of pairs of its house mean
-abbrev pub site_of : {S T : Type 0} → (S → ℕ → ℕ → Bool) → (T → ℕ → ℕ → Bool) → Site S T → Premises
-site_of left right s =
+abbrev pub site_of : {S T : Type 0} {g h : _} → Site S T g h → Premises
+site_of s =
     record {
       house = draft_of s.house;
-      state = state_of left right s.house;
+      state = state_of s.house;
       board = sensed s.board;
       minute = minute_of s.clock;
       windows = windows_of s.clock;
@@ -35,10 +35,6 @@ site_of left right s =
 -- the house is as opened with the draft d, nothing was reported, and no window is set
 abbrev pub fresh : Draft → Premises
 fresh d = record { house = d; state = opened d; board = no_numbers; minute = 0; windows = no_windows }
-
--- no role of the house reaches a permission that is barred to it
-abbrev pub SoundSite : Premises → Type 0
-SoundSite p = Sound p.house p.state
 
 -- the conditions below this are told by sensors, the rest by the clock
 abbrev pub sensed_count : ℕ

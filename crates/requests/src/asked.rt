@@ -7,7 +7,7 @@ pub enum Change {
     Revoke,
 }
 
-// A request, its names resolved to numbers. Any number may be named.
+// A request, its names resolved to numbers. Any number may be named. It is data and no closure: the rules speak of it.
 #[derive(Clone, Copy)]
 pub enum Asked {
     Start {

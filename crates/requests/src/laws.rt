@@ -2,22 +2,16 @@
 ghost use Rattle.requests.specs.Laws.{ChangesStandAlone, LeasesComeBack, ChecksSeeBoth};
 
 // A change is accepted exactly where its three calls are, and then changes its pair alone; any other changes nothing.
-pub fn changes_stand_alone() -> u8
+pub fn changes_stand_alone()
     ensures { ChangesStandAlone }
-{
-    0
-}
+{}
 
 // No request leaves a lease out that was not out before, nor takes one back that was.
-pub fn leases_come_back() -> u8
+pub fn leases_come_back()
     ensures { LeasesComeBack }
-{
-    0
-}
+{}
 
 // An access check is judged under the conditions that sensors and clock tell, and no others.
-pub fn checks_see_both() -> u8
+pub fn checks_see_both()
     ensures { ChecksSeeBoth }
-{
-    0
-}
+{}

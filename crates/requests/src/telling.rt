@@ -1,6 +1,6 @@
 // What tells which conditions hold: sensors the first, windows of the week the rest.
 ghost use Rattle.std.specs.Prelude.{◌≡◌, ◌&&◌};
-ghost use Rattle.answers.specs.Said.{told};
+ghost use Rattle.refusals.specs.Said.{told};
 ghost use Rattle.conditions.specs.Clocks.{minute_of, windows_of};
 ghost use Rattle.conditions.specs.Limits.{is_window, accepted_if};
 ghost use Rattle.conditions.specs.Sources.{sensed};
@@ -47,7 +47,7 @@ pub(crate) fn set_window(
 impl<S: PairSet, T: PairSet> Site<S, T> {
     // Whether the session may do the operation on the device, by sensors and clock.
     pub(crate) fn check(&self, session: u32, device: u32, operation: u32) -> Result<bool, Refusal>
-        ensures { told result ≡ judge (site_of S.PairSet.pairs T.PairSet.pairs self.now).house (site_of S.PairSet.pairs T.PairSet.pairs self.now).state (check_call (holding (site_of S.PairSet.pairs T.PairSet.pairs self.now)) session device operation) }
+        ensures { told result ≡ judge (site_of self.now).house (site_of self.now).state (check_call (holding (site_of self.now)) session device operation) }
     {
         let source = Joined::new(SENSED, &self.board, &self.clock);
         self.house.check_access(session, device, operation, &source)

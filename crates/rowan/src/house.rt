@@ -1,4 +1,5 @@
 // The example house by numbers: examples/README.md has it in words.
+// The calls take numbers, so names for numbers are plainer here than enums with a cast at each use.
 
 use refusals::Refusal;
 use rows::Row;
@@ -59,46 +60,45 @@ fn declare(draft: &mut Draft, thing: Thing, count: u32) -> Result<(), Refusal> {
 }
 
 fn relate(draft: &mut Draft, relation: Relation, pairs: &[(u32, u32)]) -> Result<(), Refusal> {
-    for (left, right) in pairs {
-        draft.relate(relation, *left, *right)?;
+    for &(left, right) in pairs {
+        draft.relate(relation, left, right)?;
     }
     Ok(())
 }
 
 // Users, roles, devices and all else that is counted, permissions, entries and role pairs.
 fn add_lists(draft: &mut Draft) -> Result<(), Refusal> {
-    declare(draft, Thing::User, 3)?;
-    declare(draft, Thing::Role, 2)?;
-    declare(draft, Thing::Device, 2)?;
-    declare(draft, Thing::Operation, 2)?;
-    declare(draft, Thing::DeviceRole, 2)?;
-    declare(draft, Thing::Condition, 1)?;
-    declare(draft, Thing::EnvironmentRole, 1)?;
-    declare(draft, Thing::Unit, 2)?;
-    draft.add_permission(Permission {
-        device: TV,
-        operation: PLAY,
-    })?;
-    draft.add_permission(Permission {
-        device: OVEN,
-        operation: HEAT,
-    })?;
+    let counts = [
+        (Thing::User, 3),
+        (Thing::Role, 2),
+        (Thing::Device, 2),
+        (Thing::Operation, 2),
+        (Thing::DeviceRole, 2),
+        (Thing::Condition, 1),
+        (Thing::EnvironmentRole, 1),
+        (Thing::Unit, 2),
+    ];
+    for (thing, count) in counts {
+        declare(draft, thing, count)?;
+    }
+    for (device, operation) in [(TV, PLAY), (OVEN, HEAT)] {
+        draft.add_permission(Permission { device, operation })?;
+    }
     draft.add_entry(Entry {
         environment_role: LEISURE,
         conditions: only(EVENING),
     })?;
-    draft.add_role_pair(RolePair {
-        role: KID,
-        environment_roles: only(LEISURE),
-    })?;
-    draft.add_role_pair(RolePair {
-        role: PARENT,
-        environment_roles: Row::new(),
-    })?;
-    draft.add_role_pair(RolePair {
-        role: KID,
-        environment_roles: Row::new(),
-    })?;
+    let role_pairs = [
+        (KID, only(LEISURE)),
+        (PARENT, Row::new()),
+        (KID, Row::new()),
+    ];
+    for (role, environment_roles) in role_pairs {
+        draft.add_role_pair(RolePair {
+            role,
+            environment_roles,
+        })?;
+    }
     Ok(())
 }
 

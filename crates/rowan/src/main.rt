@@ -2,16 +2,14 @@
 
 #![tactic(auto)]
 
-use anyhow::anyhow;
+use anyhow::Context;
 
 mod house;
 mod report;
 
 fn main(rt: HostRuntime) -> anyhow::Result<()> {
     println!(rt; "Rowan House")?;
-    let Ok(draft) = house::draft() else {
-        return Err(anyhow!("the draft of the example house cannot be built"));
-    };
+    let draft = house::draft().context("building the draft of the example house")?;
     report::openings(&rt, &draft)?;
     report::activity(&rt, &draft)
 }

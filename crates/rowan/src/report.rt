@@ -1,5 +1,4 @@
 use crate::house;
-use anyhow::anyhow;
 use conditions::{WeekClock, active_roles};
 use lawful::check_draft;
 use tables::{Draft, Relation};
@@ -33,7 +32,7 @@ const SPOILED: [Spoiled; 3] = [
     },
 ];
 
-fn show_check(rt: &HostRuntime, words: &str, draft: &Draft) -> anyhow::Result<()> {
+fn show_check(rt: &impl Print, words: &str, draft: &Draft) -> anyhow::Result<()> {
     match check_draft(draft) {
         Ok(()) => println!(rt; "  {words}: may open")?,
         Err(refusal) => println!(rt; "  {words}: refused, {}", refusal.code())?,
@@ -42,16 +41,11 @@ fn show_check(rt: &HostRuntime, words: &str, draft: &Draft) -> anyhow::Result<()
 }
 
 // Whether the draft may open as it is, and with each change that spoils it.
-pub fn openings(rt: &HostRuntime, draft: &Draft) -> anyhow::Result<()> {
+pub fn openings(rt: &impl Print, draft: &Draft) -> anyhow::Result<()> {
     show_check(rt, "as it is", draft)?;
     for change in &SPOILED {
         let mut spoiled = *draft;
-        if spoiled
-            .relate(change.relation, change.left, change.right)
-            .is_err()
-        {
-            return Err(anyhow!("a pair to spoil the draft is not declared"));
-        }
+        spoiled.relate(change.relation, change.left, change.right)?;
         show_check(rt, change.words, &spoiled)?;
     }
     Ok(())
@@ -67,12 +61,12 @@ const EIGHT: u32 = 20 * 60;
 const TEN: u32 = 22 * 60;
 
 fn show_active(
-    rt: &HostRuntime,
+    rt: &impl Print,
     words: &str,
     draft: &Draft,
     clock: &WeekClock,
 ) -> anyhow::Result<()> {
-    let roles = active_roles(draft.listed_entries(), clock);
+    let roles = active_roles(draft.entries.listed(), clock);
     let leisure = if roles.contains(house::LEISURE) {
         "leisure is active"
     } else {
@@ -83,15 +77,11 @@ fn show_active(
 }
 
 // Which environment roles are active on Monday at noon and in the evening, by a clock with a window for the evening.
-pub fn activity(rt: &HostRuntime, draft: &Draft) -> anyhow::Result<()> {
+pub fn activity(rt: &impl Print, draft: &Draft) -> anyhow::Result<()> {
     let mut clock = WeekClock::new();
-    if clock.set_window(house::EVENING, SIX, TEN).is_err() {
-        return Err(anyhow!("the window of the evening is out of range"));
-    }
+    clock.set_window(house::EVENING, SIX, TEN)?;
     for (words, minute) in [("at noon", NOON), ("at eight in the evening", EIGHT)] {
-        if clock.set_minute(minute).is_err() {
-            return Err(anyhow!("a minute is out of range"));
-        }
+        clock.set_minute(minute)?;
         show_active(rt, words, draft, &clock)?;
     }
     Ok(())

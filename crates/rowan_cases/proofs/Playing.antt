@@ -33,7 +33,7 @@ overlap_refused : played opening_with_overlap ≡ opening_with_overlap.expected
 unfolding first_broken_lem first_pair first_below some_below all_below row_pairs related bits_of
 overlap_refused = refl
 
--- one case, and then the rest
+-- one case, and then the rest; pairs in pairs would be laid out as a staircase
 follow : {A B : Type 0} → A → B → A × B
 follow a b = (a, b)
 

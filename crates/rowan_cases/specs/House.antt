@@ -5,6 +5,7 @@ use Rattle.std.specs.Prelude.{ℕ, ◌-◌, List, [], ◌∷◌, ◌++◌, map, 
 use Rattle.rows.specs.declared.row.Row.{Row}
 use Rattle.stores.specs.declared.bit_rows.BitRows.{BitRows}
 use Rattle.tables.specs.declared.draft.Draft.{Draft}
+use Rattle.tables.specs.declared.items.Items.{Items}
 use Rattle.tables.specs.declared.parts.Entry.{Entry}
 use Rattle.tables.specs.declared.parts.Permission.{Permission}
 use Rattle.tables.specs.declared.parts.RolePair.{RolePair}
@@ -12,6 +13,10 @@ use Rattle.tables.specs.declared.parts.RolePair.{RolePair}
 -- a list filled up to n items
 abbrev pub filled : {A : Type 0} → ℕ → A → List A → List A
 filled n z xs = xs ++ replicate (n - length xs) z
+
+-- a list of a draft: items, and a blank for the places after them
+abbrev pub listing : {A : Type 0} → A → List A → Items A
+listing z xs = record { count = length xs; places = filled 64 z xs }
 
 -- the set of the numbers that the bits of n stand for
 abbrev pub row : ℕ → Row
@@ -49,12 +54,9 @@ house_with assigned tasks =
     record {
       number = 7;
       counts = 3 ∷ 2 ∷ 2 ∷ 2 ∷ 2 ∷ 1 ∷ 1 ∷ 2 ∷ [];
-      permission_count = 2;
-      permissions = filled 64 (permission 0 0) (permission 0 0 ∷ permission 1 1 ∷ []);
-      role_pair_count = 3;
-      role_pairs = filled 64 (role_pair 0 neither) (role_pair 1 only_0 ∷ role_pair 0 neither ∷ role_pair 1 neither ∷ []);
-      entry_count = 1;
-      entries = filled 64 (entry 0 neither) (entry 0 only_0 ∷ []);
+      permissions = listing (permission 0 0) (permission 0 0 ∷ permission 1 1 ∷ []);
+      role_pairs = listing (role_pair 0 neither) (role_pair 1 only_0 ∷ role_pair 0 neither ∷ role_pair 1 neither ∷ []);
+      entries = listing (entry 0 neither) (entry 0 only_0 ∷ []);
       relations =
           -- user roles: bob and ann parent, cam kid
           pairs_of (only_0 ∷ only_0 ∷ only_1 ∷ [])

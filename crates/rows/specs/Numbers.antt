@@ -27,6 +27,10 @@ both s t = λ k. s k && t k
 abbrev pub beyond : (ℕ → Bool) → ℕ → (ℕ → Bool)
 beyond s n = λ k. nat_le n k && s k
 
+-- the numbers that s lacks or t has
+abbrev pub within : (ℕ → Bool) → (ℕ → Bool) → (ℕ → Bool)
+within s t = λ k. not (s k) || t k
+
 -- whether both sets or neither has the number
 abbrev pub agree : (ℕ → Bool) → (ℕ → Bool) → (ℕ → Bool)
 agree s t = λ k. beq (s k) (t k)

@@ -1,14 +1,14 @@
 ghost use Rattle.std.specs.Prelude.{◌≡◌, ℕ, ◌<◌, Bool, not, ◌&&◌, if◌then◌else◌, Decides, nat_eq};
 ghost use Rattle.search.specs.Below.{some_below, all_below};
 ghost use Rattle.search.specs.Firsts.{first_below};
-ghost use Rattle.rows.specs.Numbers.{in_row, no_numbers, with_number, without_number, both, beyond, agree, two_below};
+ghost use Rattle.rows.specs.Numbers.{in_row, no_numbers, with_number, without_number, both, beyond, within, agree, two_below};
 ghost use Rattle.rows.specs.Rows.{numbers, empty_row, row_flipped, row_with};
 
 // The numbers that a set can hold are below this.
 pub const NUMBERS: u32 = 32;
 
 // A set of numbers below 32: a bit for each.
-#[derive(Clone, Copy)]
+#[derive(Clone, Copy, PartialEq, Eq)]
 pub struct Row {
     bits: u32,
 }
@@ -77,12 +77,11 @@ impl Row {
     pub fn first(self) -> Option<u32>
         ensures { result ≡ first_below (numbers self) 32 }
     {
-        for number in 0..NUMBERS {
-            if self.contains(number) {
-                return Some(number);
-            }
+        if self.bits == 0 {
+            None
+        } else {
+            Some(self.bits.trailing_zeros())
         }
-        None
     }
 
     // Whether some number is in both sets.
@@ -96,40 +95,28 @@ impl Row {
     pub fn has_two(self) -> bool
         ensures { result ≡ two_below (numbers self) 32 }
     {
-        let mut seen = false;
-        for number in 0..NUMBERS {
-            if self.contains(number) {
-                if seen {
-                    return true;
-                }
-                seen = true;
-            }
-        }
-        false
+        self.bits.count_ones() > 1
     }
 
     // Whether some number of the set is not below `limit`.
     pub fn goes_beyond(self, limit: u32) -> bool
         ensures { result ≡ some_below (beyond (numbers self) limit) 32 }
     {
-        for number in 0..NUMBERS {
-            if number >= limit && self.contains(number) {
-                return true;
-            }
-        }
-        false
+        (limit..NUMBERS).any(|number| self.contains(number))
     }
 
-    // Whether the two sets hold the same numbers.
+    // Whether every number of the set is in the other.
+    pub fn is_within(self, other: Row) -> bool
+        ensures { result ≡ all_below (within (numbers self) (numbers other)) 32 }
+    {
+        self.and(other) == self
+    }
+
+    // Whether the two sets hold the same numbers: `==`, said of the numbers and not of the bits.
     pub fn equals(self, other: Row) -> bool
         ensures exact { result ≡ all_below (agree (numbers self) (numbers other)) 32 }
         ensures words { Decides result (numbers self ≡ numbers other) }
     {
-        for number in 0..NUMBERS {
-            if self.contains(number) != other.contains(number) {
-                return false;
-            }
-        }
-        true
+        self == other
     }
 }

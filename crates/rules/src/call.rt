@@ -9,7 +9,7 @@ pub enum Spot {
 }
 
 // The three numbers that a lease is.
-#[derive(Clone, Copy)]
+#[derive(Clone, Copy, PartialEq, Eq)]
 pub struct LeaseNumbers {
     pub house: u32,
     pub unit: u32,

@@ -31,6 +31,7 @@ pub fn replay<M: Machine>(
     ensures run { MatchResult result (λ v. Replayed (M.draft machine.old) (M.state machine.old) calls.now v.items (M.state machine.new)) (λ _. machine.new ≡ machine.old) }
 {
     let mut history = Vec::with_capacity(heap, calls.len())?;
+    // Not a collect: its memory could turn out short when calls are already made.
     for call in calls {
         let answer = machine.answer(*call);
         history.push_reserved(Event {

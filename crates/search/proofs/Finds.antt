@@ -19,6 +19,11 @@ first_found f (suc n) i h a b = ⊎_elim
     (λ (e : i ≡ n → ⊥). rw (first_found f n i (omega arith) a b))
     (cases_eq i n)
 
+pub first_clear : (f : ℕ → Bool) (n : ℕ) → ((k : ℕ) → k < n → f k ≡ false) → first_below f n ≡ None
+unfolding first_below
+first_clear f zero h = refl
+first_clear f (suc n) h = rw (first_clear f n (λ k l. h k (omega arith)), h n (omega arith))
+
 pub pair_none : (f : ℕ → ℕ → Bool) (n : ℕ) → first_pair f 0 n ≡ None
 unfolding first_pair
 pair_none f n = refl

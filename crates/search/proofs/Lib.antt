@@ -1,2 +1,4 @@
 pub mod Somes
 pub mod Finds
+pub mod Ranges
+pub mod Anys

@@ -25,3 +25,7 @@ abbrev pub FirstPair : (ℕ → ℕ → Bool) → ℕ → ℕ → Option (ℕ ×
 FirstPair f m n None = (l r : ℕ) → l < m → r < n → f l r ≡ false
 FirstPair f m n (Some p) = (p.0 < m) × (p.1 < n) × (f p.0 p.1 ≡ true)
     × ((l r : ℕ) → l < p.0 → r < n → f l r ≡ false) × ((r : ℕ) → r < p.1 → f p.0 r ≡ false)
+
+-- whatever a test may answer of a pair, left below m and right below n, is what hit computes of it
+abbrev pub Computes : (ℕ → ℕ → Bool → Type 0) → ℕ → ℕ → (ℕ → ℕ → Bool) → Type 0
+Computes answers m n hit = (l r : ℕ) (b : Bool) → l < m → r < n → answers l r b → b ≡ hit l r

@@ -4,4 +4,4 @@
 
 mod hits;
 
-pub use hits::{PairTest, first_hit};
+pub use hits::first_hit;

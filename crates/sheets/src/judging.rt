@@ -1,17 +1,16 @@
 // The reasons for which a record of a known kind is refused before it does anything.
 ghost use Rattle.std.specs.Prelude.{◌≡◌};
-ghost use Rattle.forms.specs.Fields.{values};
+ghost use Rattle.refusals.specs.Said.{said};
+ghost use Rattle.kinds.specs.declared.kind.Kind.TheVariants.{Permission};
 ghost use Rattle.names.specs.Spellings.{spellings};
 ghost use Rattle.refusals.specs.declared.answer.Answer.TheVariants.{Accepted};
 ghost use Rattle.rules.specs.Judging.{first_reason};
-ghost use Rattle.sheets.specs.Sheets.{TidySheet};
-ghost use Rattle.answers.specs.Said.{said};
 ghost use Rattle.sheets.specs.Judging.{known_at, all_named, all_known, permitted, already, grows, is_full_lem, record_tests};
 
 use crate::sheet::Sheet;
-use forms::{are_spelt, value_at};
+use forms::Form;
 use kinds::{Column, Kind, NameTable};
-use records::Field;
+use records::Record;
 use refusals::Refusal;
 use tables::Table;
 
@@ -30,106 +29,79 @@ fn grows(kind: Kind) -> Option<Table>
 
 impl Sheet<'_> {
     // Whether the name at a place is declared, where its column wants a declared name.
-    fn is_known(&self, kind: Kind, fields: &[Field<'_>], place: usize) -> bool
-        requires { TidySheet self.now }
-        ensures { result ≡ known_at (spellings self.now.names) kind (values fields.now) place }
+    fn is_known(&self, form: &Form<'_, '_>, place: usize) -> bool
+        ensures { result ≡ known_at (spellings self.now.names) form.now.kind form.now.values place }
     {
-        match kind.column(place) {
-            Column::Known(table) => self.names.find(table, value_at(fields, place)).is_some(),
+        match form.column(place) {
+            Column::Known(table) => self.names.find(table, form.value_at(place)).is_some(),
             Column::New(_) | Column::Number | Column::Flag => true,
         }
     }
 
     // Whether all of them are.
-    fn knows_names(&self, kind: Kind, fields: &[Field<'_>]) -> bool
-        requires { TidySheet self.now }
-        ensures { result ≡ all_named (spellings self.now.names) kind (values fields.now) }
+    fn knows_names(&self, form: &Form<'_, '_>) -> bool
+        ensures { result ≡ all_named (spellings self.now.names) form.now.kind form.now.values }
     {
-        for place in 0..fields.len().saturating_sub(1) {
-            if !self.is_known(kind, fields, place) {
-                return false;
-            }
-        }
-        true
+        (0..form.places()).all(|place| self.is_known(form, place))
     }
 
     // Whether all is declared that the record speaks of.
-    fn knows_all(&self, kind: Kind, fields: &[Field<'_>]) -> bool
-        requires { TidySheet self.now }
-        ensures { result ≡ all_known (spellings self.now.names) self.now.draft kind (values fields.now) }
+    fn knows_all(&self, form: &Form<'_, '_>) -> bool
+        ensures { result ≡ all_known (spellings self.now.names) self.now.draft form.now.kind form.now.values }
     {
-        if !self.knows_names(kind, fields) {
-            return false;
-        }
-        kind.permission_place().is_none() || self.formed(kind, fields).is_some()
+        self.knows_names(form)
+            && (form.kind().permission_place().is_none() || self.formed(form).is_some())
     }
 
     // Whether the permission of a record `P` is declared.
-    fn is_permitted(&self, fields: &[Field<'_>]) -> bool
-        requires { TidySheet self.now }
-        ensures { result ≡ permitted (spellings self.now.names) self.now.draft (values fields.now) }
+    fn is_permitted(&self, form: &Form<'_, '_>) -> bool
+        requires { form.now.kind ≡ Permission }
+        ensures { result ≡ permitted (spellings self.now.names) self.now.draft form.now.values }
     {
-        if !self.is_known(Kind::Permission, fields, 0)
-            || !self.is_known(Kind::Permission, fields, 1)
-        {
-            return false;
-        }
-        let device = self.number(Kind::Permission, fields, 0);
-        let operation = self.number(Kind::Permission, fields, 1);
-        self.draft.permission_number(device, operation).is_some()
+        let device = self.number(form, 0);
+        let operation = self.number(form, 1);
+        self.is_known(form, 0)
+            && self.is_known(form, 1)
+            && self.draft.permission_number(device, operation).is_some()
     }
 
     // Whether what the record declares is declared already.
-    fn has_already(&self, kind: Kind, fields: &[Field<'_>]) -> bool
-        requires { TidySheet self.now }
-        ensures { result ≡ already (spellings self.now.names) self.now.draft kind (values fields.now) }
+    fn has_already(&self, form: &Form<'_, '_>) -> bool
+        ensures { result ≡ already (spellings self.now.names) self.now.draft form.now.kind form.now.values }
     {
-        match kind {
-            Kind::Declare(thing) => self
-                .names
-                .find(NameTable::Things(thing), value_at(fields, 0))
-                .is_some(),
-            Kind::RolePair => self
-                .names
-                .find(NameTable::RolePairs, value_at(fields, 0))
-                .is_some(),
-            Kind::Permission => self.is_permitted(fields),
-            Kind::Entry | Kind::Relate(_) | Kind::Ask(_) => false,
-        }
+        let table = match form.kind() {
+            Kind::Declare(thing) => NameTable::Things(thing),
+            Kind::RolePair => NameTable::RolePairs,
+            Kind::Permission => return self.is_permitted(form),
+            Kind::Entry | Kind::Relate(_) | Kind::Ask(_) => return false,
+        };
+        self.names.find(table, form.value_at(0)).is_some()
     }
 
     // Whether the list that the record would make longer is full.
     fn is_full(&self, kind: Kind) -> bool
         ensures { result ≡ is_full_lem self.now.draft kind }
     {
-        match grows(kind) {
-            Some(table) => table.limit() <= self.draft.count(table),
-            None => false,
-        }
+        let draft = &self.draft;
+        grows(kind).is_some_and(|table| table.limit() <= draft.count(table))
     }
 
-    // Whether a record of the kind may do what it says: `count` of its fields, of which the first 40 are given, and `at`
-    // the place of its first byte.
-    pub fn check(
-        &self,
-        kind: Kind,
-        fields: &[Field<'_>],
-        count: usize,
-        at: usize,
-    ) -> Result<(), Refusal>
-        requires { TidySheet self.now }
-        ensures { said result ≡ first_reason (record_tests (spellings self.now.names) self.now.draft kind at count (values fields.now)) Accepted }
+    // Whether a record may do what it says: `whole` tells its place and the number of all its fields.
+    pub fn check(&self, whole: Record, form: &Form<'_, '_>) -> Result<(), Refusal>
+        ensures { said result ≡ first_reason (record_tests (spellings self.now.names) self.now.draft form.now.kind whole.start whole.count form.now.values) Accepted }
     {
-        if !kind.takes(count) {
+        let at = whole.start;
+        let kind = form.kind();
+        if !kind.takes(whole.count) {
             return Err(Refusal::WrongFieldCount { at });
         }
-        if !are_spelt(kind, fields) {
+        if !form.is_spelt() {
             return Err(Refusal::BadlyWritten { at });
         }
-        if self.has_already(kind, fields) {
+        if self.has_already(form) {
             return Err(Refusal::AlreadyDeclared { at });
         }
-        if !self.knows_all(kind, fields) {
+        if !self.knows_all(form) {
             return Err(Refusal::NotDeclared { at });
         }
         if self.is_full(kind) {

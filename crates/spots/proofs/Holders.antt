@@ -1,11 +1,10 @@
 -- The unit whose task holds a pair, in lawful tables the only one.
-use Rattle.std.proofs.Common.{◌≡◌, ℕ, true, false, eqb, Some, None, sym, ap, ◌∙◌}
+use Rattle.std.proofs.Common.{◌≡◌, ℕ, true, eqb, Some, sym, ap, ◌∙◌}
 use Rattle.lawful.specs.Checking.{is_lawful}
 use Rattle.lawful.specs.Tasks.{held_by, Holder}
 use Rattle.lawful.specs.declared.rule.Rule.TheVariants.{TasksApart}
 use Rattle.lawful.specs.declared.task.Task.{Task}
 use Rattle.lawful.proofs.Answering.{lawful_test}
-use Rattle.lawful.proofs.Bounds.{refute}
 use Rattle.std.proofs.lemmas.Bool.{eqb-true, eq-eqb}
 use Rattle.std.proofs.lemmas.Bool.Decides.{same_from_decides}
 use Rattle.tables.specs.declared.draft.Draft.{Draft}
@@ -16,6 +15,3 @@ module _ (d : Draft) (t : Task) (l e unit : ℕ) where
       same_from_decides (eqb u unit) (held_by d t l e unit)
       ((λ q. ap (held_by d t l e) (sym (eqb-true u unit q)) ∙ w.0), (λ q. eq-eqb u unit (sym (w.1 (lawful_test d h (TasksApart t)) unit q))))
       ((λ q. q), (λ q. q))
-
-  pub no_holder_tells : Holder d t l e None → false ≡ held_by d t l e unit
-  no_holder_tells w = sym (refute _ (w unit))

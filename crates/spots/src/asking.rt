@@ -8,26 +8,22 @@ use rules::Spot;
 use stores::PairSet;
 use tables::{Draft, Relation, Table, Thing};
 
-// Whether both numbers of the spot are declared.
+// Whether both numbers of the spot are declared. Functions and no methods: draft and spot are types of other crates.
 pub fn is_known(draft: &Draft, spot: Spot) -> bool
     ensures { result ≡ known draft.now spot }
 {
-    match spot {
+    let (table, number, device_role) = match spot {
         Spot::RolePair {
             role_pair,
             device_role,
-        } => {
-            draft.is_declared(Table::RolePairs, role_pair)
-                && draft.is_declared(Table::Things(Thing::DeviceRole), device_role)
-        }
+        } => (Table::RolePairs, role_pair, device_role),
         Spot::Permission {
             permission,
             device_role,
-        } => {
-            draft.is_declared(Table::Permissions, permission)
-                && draft.is_declared(Table::Things(Thing::DeviceRole), device_role)
-        }
-    }
+        } => (Table::Permissions, permission, device_role),
+    };
+    draft.is_declared(table, number)
+        && draft.is_declared(Table::Things(Thing::DeviceRole), device_role)
 }
 
 // Whether the pair may never be assigned.
@@ -41,37 +37,29 @@ pub fn is_prohibited(draft: &Draft, spot: Spot) -> bool
         } => draft
             .relation(Relation::ProhibitedPairs)
             .contains(role_pair, device_role),
-        Spot::Permission {
-            permission: _,
-            device_role: _,
-        } => false,
-    }
-}
-
-// Whether the unit's task holds the pair.
-fn is_held_by(draft: &Draft, task: Task, left: u32, device_role: u32, unit: u32) -> bool
-    requires { is_lawful draft.now ≡ true }
-    ensures { result ≡ held_by draft.now task left device_role unit }
-{
-    match unit_of(draft, task, left, device_role) {
-        Some(holder) => holder == unit,
-        None => false,
+        Spot::Permission { .. } => false,
     }
 }
 
 // Whether the pair is in the task of the unit. In a lawful draft it is in that of one unit at most.
+// That the draft is lawful is asked for: a type of lawful drafts would stand between a house and every call on its draft.
 pub fn is_in_task(draft: &Draft, unit: u32, spot: Spot) -> bool
     requires { is_lawful draft.now ≡ true }
     ensures { result ≡ in_task draft.now unit spot }
 {
-    match spot {
+    let (task, number, device_role) = match spot {
         Spot::RolePair {
             role_pair,
             device_role,
-        } => is_held_by(draft, Task::RolePairs, role_pair, device_role, unit),
+        } => (Task::RolePairs, role_pair, device_role),
         Spot::Permission {
             permission,
             device_role,
-        } => is_held_by(draft, Task::Permissions, permission, device_role, unit),
+        } => (Task::Permissions, permission, device_role),
+    };
+    // Some unit or none, taken apart where it is asked for.
+    match unit_of(draft, task, number, device_role) {
+        Some(holder) => holder == unit,
+        None => false,
     }
 }

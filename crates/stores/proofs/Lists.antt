@@ -2,6 +2,7 @@
 use Rattle.std.proofs.Common.{◌≡◌, ℕ, ◌+◌, ◌<◌, Bool, true, false, ◌&&◌, ◌||◌, List, [], ◌∷◌, ◌++◌, length, get_or, take, sym, refl, ap, ◌∙◌}
 use mathlib.Core.Path.{fun_ext}
 use Rattle.std.proofs.lemmas.List.{take_more}
+use Rattle.search.proofs.Ranges.{swap}
 use Rattle.stores.specs.Pairs.{in_bounds, is_pair, with_pair, no_pairs}
 use Rattle.stores.specs.Listed.{listed}
 use Rattle.stores.specs.declared.pair.Pair.{Pair}
@@ -10,16 +11,11 @@ pub listed_none : listed [] ≡ no_pairs
 unfolding listed no_pairs
 listed_none = refl
 
-or_swap : (x y z : Bool) → (x || (y || z)) ≡ (y || (x || z))
-or_swap true true z = refl
-or_swap true false z = refl
-or_swap false y z = refl
-
 listed_push_at : (ps : List Pair) (p : Pair) (a b : ℕ) → listed (ps ++ p ∷ []) a b ≡ with_pair (listed ps) p.left p.right a b
 unfolding listed with_pair
 listed_push_at [] p a b = refl
 listed_push_at (q ∷ ps) p a b =
-    rw (listed_push_at ps p a b) (or_swap (in_bounds q.left q.right && is_pair q.left q.right a b) (in_bounds p.left p.right && is_pair p.left p.right a b) (listed ps a b))
+    rw (listed_push_at ps p a b) (swap (in_bounds q.left q.right && is_pair q.left q.right a b) (in_bounds p.left p.right && is_pair p.left p.right a b) (listed ps a b))
 
 pub listed_push : (ps : List Pair) (p : Pair) → listed (ps ++ p ∷ []) ≡ with_pair (listed ps) p.left p.right
 listed_push ps p = fun_ext λ a. fun_ext λ b. listed_push_at ps p a b

@@ -3,22 +3,18 @@ use Rattle.std.specs.Prelude.{◌≡◌, ℕ, true, ◌&&◌, List, [], ◌∷�
 use Rattle.std.proofs.Common.{⊎_elim, sym, ◌∙◌, ap₂}
 use Rattle.std.proofs.lemmas.Bool.{and_parts, and_from, or_cases, eqb-true, false≢true}
 use Rattle.stores.specs.Listed.{listed}
-use Rattle.rows.specs.Numbers.{bits_of, in_row}
+use Rattle.rows.specs.Bounded.{row_bounded}
 use Rattle.stores.specs.Pairs.{in_bounds, is_pair}
 use Rattle.rows.specs.Rows.{numbers, empty_row}
 use Rattle.stores.specs.Rows.{row_pairs}
 use Rattle.stores.specs.declared.pair.Pair.{Pair}
 use Rattle.rows.specs.declared.row.Row.{Row}
 
-bits_bounded : (w k : ℕ) → bits_of w k ≡ true → in_row k ≡ true
-unfolding bits_of
-bits_bounded w k e = (and_parts (in_row k) _ e).0
-
 pub rows_bounded : (rows : List Row) (a b : ℕ) → row_pairs rows a b ≡ true → in_bounds a b ≡ true
 unfolding row_pairs
 rows_bounded rows a b e =
     let p = and_parts (nat_lt a 64) (numbers (slice_index_or rows a empty_row) b) e in
-    and_from (nat_lt a 64) (nat_lt b 32) p.0 (bits_bounded (get_or rows a empty_row).bits b p.1)
+    and_from (nat_lt a 64) (nat_lt b 32) p.0 (row_bounded (get_or rows a empty_row) b p.1)
 
 same_bounds : (l r a b : ℕ) → is_pair l r a b ≡ true → in_bounds l r ≡ true → in_bounds a b ≡ true
 same_bounds l r a b e h =

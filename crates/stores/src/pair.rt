@@ -3,7 +3,7 @@ ghost use Rattle.std.proofs.Common.{rules};
 
 use index_set::Same;
 
-#[derive(Clone, Copy, Debug)]
+#[derive(Clone, Copy, Debug, PartialEq, Eq)]
 pub struct Pair {
     pub left: u32,
     pub right: u32,
@@ -19,6 +19,6 @@ impl Same for Pair {
     ghost transitive = { Prim.search rules };
 
     fn same(&self, other: &Pair) -> bool {
-        self.left == other.left && self.right == other.right
+        self == other
     }
 }

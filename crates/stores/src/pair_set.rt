@@ -9,6 +9,7 @@ pub const LEFTS: u32 = 64;
 pub const RIGHTS: u32 = NUMBERS;
 
 // A set of pairs. A pair outside the bounds is never in it.
+// The calls take the two numbers apart and no `Pair`, as loops over them and rows of bits have them.
 pub trait PairSet {
     // Which pairs are in the set, by left and right number.
     ghost pairs: { Self → ℕ → ℕ → Bool };

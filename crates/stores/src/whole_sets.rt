@@ -4,6 +4,7 @@ ghost use Rattle.stores.specs.Comparing.{Compared};
 
 use crate::pair::Pair;
 use crate::pair_set::{LEFTS, PairSet, RIGHTS};
+use search::first_hit;
 
 // Empties the set and puts in each pair of the list that is in bounds.
 pub fn fill<S: PairSet>(store: &mut S, list: &[Pair])
@@ -33,12 +34,10 @@ pub fn copy<S: PairSet, T: PairSet>(source: &S, target: &mut T)
 pub fn first_difference<S: PairSet, T: PairSet>(one: &S, two: &T) -> Option<Pair>
     ensures { Compared (S.PairSet.pairs one.now) (T.PairSet.pairs two.now) result }
 {
-    for left in 0..LEFTS {
-        for right in 0..RIGHTS {
-            if one.contains(left, right) != two.contains(left, right) {
-                return Some(Pair { left, right });
-            }
-        }
-    }
-    None
+    let (left, right) = first_hit(
+        |left, right| one.contains(left, right) != two.contains(left, right),
+        LEFTS,
+        RIGHTS,
+    )?;
+    Some(Pair { left, right })
 }

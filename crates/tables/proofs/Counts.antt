@@ -1,5 +1,5 @@
 -- The counts of an empty draft, and the items that count.
-use Rattle.std.proofs.Common.{◌≡◌, ℕ, ◌-◌, ◌≤◌, min, List, length, get_or, take, replicate, sym, refl, ap, ◌∙◌, ⊎_elim, arith}
+use Rattle.std.proofs.Common.{◌≡◌, ℕ, min, List, length, get_or, take, replicate, sym, refl, ap, ◌∙◌, ⊎_elim, arith}
 use Rattle.std.proofs.lemmas.List.{take_all}
 use Rattle.std.proofs.lemmas.Bool.{cases_lt}
 use Rattle.tables.specs.Drafts.{count}
@@ -20,15 +20,15 @@ none_of Condition = refl
 none_of EnvironmentRole = refl
 none_of Thing.Unit = refl
 
-pub none_counted : (d : Draft) → d.counts ≡ replicate 8 0 → d.permission_count ≡ 0 → d.role_pair_count ≡ 0 → d.entry_count ≡ 0 → (t : Table) → count d t ≡ 0
+pub none_counted : (d : Draft) → d.counts ≡ replicate 8 0 → d.permissions.count ≡ 0 → d.role_pairs.count ≡ 0 → d.entries.count ≡ 0 → (t : Table) → count d t ≡ 0
 none_counted d e p q n (Things t) = ap (λ l. get_or l (thing_index t) 0) e ∙ none_of t
 none_counted d e p q n Permissions = p
 none_counted d e p q n RolePairs = q
 none_counted d e p q n Entries = n
 
 -- the first items of a list of 64, as many as are counted
-pub listed_first : {X : Type 0} (n m : ℕ) (xs : List X) → length xs ≡ 64 → m ≡ min n 64 → take (m - 0) xs ≡ take n xs
+pub listed_first : {X : Type 0} (n m : ℕ) (xs : List X) → length xs ≡ 64 → m ≡ min n 64 → take m xs ≡ take n xs
 listed_first n m xs h e = ⊎_elim
-    (λ k. let z : m - 0 ≡ n = omega arith in ap (λ i. take i xs) z)
-    (λ k. let z : 64 ≤ m - 0 = omega arith in take_all (m - 0) xs (omega arith) ∙ sym (take_all n xs (omega arith)))
+    (λ k. let z : m ≡ n = omega arith in ap (λ i. take i xs) z)
+    (λ k. take_all m xs (omega arith) ∙ sym (take_all n xs (omega arith)))
     (cases_lt n 64)

@@ -1,2 +1,3 @@
 pub mod Relating
 pub mod Counts
+pub mod Places

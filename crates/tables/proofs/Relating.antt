@@ -55,9 +55,9 @@ module _ (rs : List BitRows) (r : Relation) (x : BitRows) (a b : ℕ) (inside : 
 
 -- the same by the whole draft
 pub draft_set : (d : Draft) (r : Relation) (x : BitRows) (a b k : ℕ) → k ≡ relation_index r → x ≡ rows_with (get_or d.relations k (record { rows = [] })) a b
-    → record { number = d.number; counts = d.counts; permission_count = d.permission_count; permissions = d.permissions; role_pair_count = d.role_pair_count; role_pairs = d.role_pairs; entry_count = d.entry_count; entries = d.entries; relations = set d.relations k x } ≡ with_pair_in d r a b
+    → record d { relations = set d.relations k x } ≡ with_pair_in d r a b
 draft_set d r x a b k e f =
     ap (placed k) f ∙ ap (λ i. placed i (rows_with (get_or d.relations i (record { rows = [] })) a b)) e
   where
     placed : ℕ → BitRows → Draft
-    placed i y = record { number = d.number; counts = d.counts; permission_count = d.permission_count; permissions = d.permissions; role_pair_count = d.role_pair_count; role_pairs = d.role_pairs; entry_count = d.entry_count; entries = d.entries; relations = set d.relations i y }
+    placed i y = record d { relations = set d.relations i y }

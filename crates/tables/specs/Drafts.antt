@@ -21,9 +21,9 @@ things d t = slice_index d.counts (thing_index t)
 -- how many items a list has
 abbrev pub count : Draft → Table → ℕ
 count d (Things t) = things d t
-count d Permissions = d.permission_count
-count d RolePairs = d.role_pair_count
-count d Entries = d.entry_count
+count d Permissions = d.permissions.count
+count d RolePairs = d.role_pairs.count
+count d Entries = d.entries.count
 
 -- whether a list has an item of this number, and can have it
 abbrev pub declared : Draft → Table → ℕ → Bool
@@ -35,17 +35,17 @@ related d r = pairs_in (slice_index_or d.relations (relation_index r) (record { 
 
 -- the item of a list at a place
 abbrev pub permission_at : Draft → ℕ → Permission
-permission_at d p = slice_index_or d.permissions p (record { device = 0; operation = 0 })
+permission_at d p = slice_index_or d.permissions.places p (record { device = 0; operation = 0 })
 
 abbrev pub role_pair_at : Draft → ℕ → RolePair
-role_pair_at d q = slice_index_or d.role_pairs q (record { role = 0; environment_roles = record { bits = 0 } })
+role_pair_at d q = slice_index_or d.role_pairs.places q (record { role = 0; environment_roles = record { bits = 0 } })
 
 abbrev pub entry_at : Draft → ℕ → Entry
-entry_at d e = slice_index_or d.entries e (record { environment_role = 0; conditions = record { bits = 0 } })
+entry_at d e = slice_index_or d.entries.places e (record { environment_role = 0; conditions = record { bits = 0 } })
 
 -- the entries that count
 abbrev pub entries_of : Draft → List Entry
-entries_of d = take d.entry_count d.entries
+entries_of d = take d.entries.count d.entries.places
 
 -- whether p is a permission, and that of the device and the operation
 abbrev pub is_permission_lem : Draft → ℕ → ℕ → ℕ → Bool

@@ -3,9 +3,10 @@ ghost use Rattle.tables.specs.Adding.{declaring, adding_permission, adding_role_
 ghost use Rattle.tables.specs.Drafts.{related};
 
 use crate::draft::Draft;
+use crate::item::Item;
 use crate::parts::{Entry, Permission, RolePair};
 use crate::relation::Relation;
-use crate::table::{LIST_LIMIT, Table, Thing};
+use crate::table::{Table, Thing};
 use refusals::Refusal;
 use stores::PairSet;
 
@@ -37,18 +38,10 @@ impl Draft {
         {
             return Err(Refusal::AlreadyDeclared { at: 0 });
         }
-        let device = self.is_declared(Table::Things(Thing::Device), permission.device);
-        let operation = self.is_declared(Table::Things(Thing::Operation), permission.operation);
-        if !(device && operation) {
+        if permission.names_undeclared(self) {
             return Err(Refusal::NotDeclared { at: 0 });
         }
-        let number = self.permission_count;
-        if number >= LIST_LIMIT {
-            return Err(Refusal::TableFull { at: 0 });
-        }
-        self.permissions[number as usize] = permission;
-        self.permission_count = number + 1;
-        Ok(number)
+        self.permissions.push(permission)
     }
 
     // One more role pair. Equal content is let through here; the check of the draft finds it.
@@ -56,20 +49,10 @@ impl Draft {
         ensures answer { result ≡ adding_role_pair self.old role_pair }
         ensures after { self.new ≡ (if is_ok result then with_role_pair self.old role_pair else self.old) }
     {
-        let role = self.is_declared(Table::Things(Thing::Role), role_pair.role);
-        let beyond = role_pair
-            .environment_roles
-            .goes_beyond(self.count(Table::Things(Thing::EnvironmentRole)));
-        if !role || beyond {
+        if role_pair.names_undeclared(self) {
             return Err(Refusal::NotDeclared { at: 0 });
         }
-        let number = self.role_pair_count;
-        if number >= LIST_LIMIT {
-            return Err(Refusal::TableFull { at: 0 });
-        }
-        self.role_pairs[number as usize] = role_pair;
-        self.role_pair_count = number + 1;
-        Ok(number)
+        self.role_pairs.push(role_pair)
     }
 
     // One more entry.
@@ -77,23 +60,10 @@ impl Draft {
         ensures answer { result ≡ adding_entry self.old entry }
         ensures after { self.new ≡ (if is_ok result then with_entry self.old entry else self.old) }
     {
-        let role = self.is_declared(
-            Table::Things(Thing::EnvironmentRole),
-            entry.environment_role,
-        );
-        let beyond = entry
-            .conditions
-            .goes_beyond(self.count(Table::Things(Thing::Condition)));
-        if !role || beyond {
+        if entry.names_undeclared(self) {
             return Err(Refusal::NotDeclared { at: 0 });
         }
-        let number = self.entry_count;
-        if number >= LIST_LIMIT {
-            return Err(Refusal::TableFull { at: 0 });
-        }
-        self.entries[number as usize] = entry;
-        self.entry_count = number + 1;
-        Ok(number)
+        self.entries.push(entry)
     }
 
     // Puts a pair in a relation. A repeat counts once. Said twice: by the pairs of each relation, and by the whole draft.
@@ -103,9 +73,7 @@ impl Draft {
         ensures rest { lists_of self.new ≡ lists_of self.old }
         ensures exact { self.new ≡ (if is_ok result then with_pair_in self.old relation left right else self.old) }
     {
-        let left_declared = self.is_declared(relation.left(), left);
-        let right_declared = self.is_declared(Table::Things(relation.right()), right);
-        if !(left_declared && right_declared) {
+        if !self.declares_pair(relation, left, right) {
             return Err(Refusal::NotDeclared { at: 0 });
         }
         self.relations[relation.index()].insert(left, right);

@@ -1,8 +1,10 @@
 ghost use Rattle.std.specs.Prelude.{◌≡◌};
 ghost use Rattle.stores.specs.Rows.{pairs_in};
-ghost use Rattle.tables.specs.Drafts.{count, declared, related, entries_of, is_permission_lem, permission_of, Empty};
+ghost use Rattle.tables.specs.Drafts.{count, declared, related, is_permission_lem, permission_of, Empty};
+ghost use Rattle.tables.specs.Naming.{pair_declared};
 
-use crate::draft::{Draft, PLACES};
+use crate::draft::Draft;
+use crate::items::Items;
 use crate::parts::{Entry, Permission, RolePair};
 use crate::relation::Relation;
 use crate::table::{LIST_LIMIT, Table, Thing};
@@ -17,21 +19,18 @@ impl Draft {
         Draft {
             number: 0,
             counts: [0; 8],
-            permission_count: 0,
-            permissions: [Permission {
+            permissions: Items::empty(Permission {
                 device: 0,
                 operation: 0,
-            }; PLACES],
-            role_pair_count: 0,
-            role_pairs: [RolePair {
+            }),
+            role_pairs: Items::empty(RolePair {
                 role: 0,
                 environment_roles: row,
-            }; PLACES],
-            entry_count: 0,
-            entries: [Entry {
+            }),
+            entries: Items::empty(Entry {
                 environment_role: 0,
                 conditions: row,
-            }; PLACES],
+            }),
             relations: [BitRows::new(); 12],
         }
     }
@@ -42,9 +41,9 @@ impl Draft {
     {
         match table {
             Table::Things(thing) => self.counts[thing.index()],
-            Table::Permissions => self.permission_count,
-            Table::RolePairs => self.role_pair_count,
-            Table::Entries => self.entry_count,
+            Table::Permissions => self.permissions.count,
+            Table::RolePairs => self.role_pairs.count,
+            Table::Entries => self.entries.count,
         }
     }
 
@@ -55,6 +54,14 @@ impl Draft {
         number < self.count(table) && number < table.limit()
     }
 
+    // Whether both numbers of a pair of the relation are declared.
+    pub fn declares_pair(&self, relation: Relation, left: u32, right: u32) -> bool
+        ensures { result ≡ pair_declared self.now relation left right }
+    {
+        self.is_declared(relation.left(), left)
+            && self.is_declared(Table::Things(relation.right()), right)
+    }
+
     // The pairs of a relation.
     pub fn relation(&self, relation: Relation) -> &BitRows
         ensures { pairs_in result.now ≡ related self.now relation }
@@ -62,34 +69,18 @@ impl Draft {
         &self.relations[relation.index()]
     }
 
-    // The entries that count.
-    pub fn listed_entries(&self) -> &[Entry]
-        ensures { result.now ≡ entries_of self.now }
-    {
-        let count = self.entry_count.min(LIST_LIMIT) as usize;
-        &self.entries[0..count]
-    }
-
     // Whether the permission of this number is there, and is that operation of that device.
     fn is_permission(&self, number: u32, device: u32, operation: u32) -> bool
         ensures { result ≡ is_permission_lem self.now device operation number }
     {
-        if !self.is_declared(Table::Permissions, number) {
-            return false;
-        }
-        let permission = self.permissions[number as usize];
-        permission.device == device && permission.operation == operation
+        let sought = Permission { device, operation };
+        self.is_declared(Table::Permissions, number) && self.permissions.at(number) == sought
     }
 
-    // The number of the permission for an operation of a device.
+    // The number of the permission for an operation of a device. Over numbers, by which it is told how many places count.
     pub fn permission_number(&self, device: u32, operation: u32) -> Option<u32>
         ensures { result ≡ permission_of self.now device operation }
     {
-        for number in 0..LIST_LIMIT {
-            if self.is_permission(number, device, operation) {
-                return Some(number);
-            }
-        }
-        None
+        (0..LIST_LIMIT).find(|number| self.is_permission(*number, device, operation))
     }
 }

@@ -22,7 +22,8 @@ pub enum Relation {
 }
 
 impl Relation {
-    // Where its pairs stand among the relations of a draft.
+    // Where its pairs stand among the relations of a draft. A method says what
+    // the number is; a `From` would not.
     pub fn index(self) -> usize
         ensures value { result ≡ relation_index self }
         ensures bound { result < 12 }

@@ -16,7 +16,8 @@ pub enum Thing {
 }
 
 impl Thing {
-    // Where the count of these stands among the counts of a draft.
+    // Where the count of these stands among the counts of a draft. A method says what the
+    // number is; a `From` would not.
     pub fn index(self) -> usize
         ensures value { result ≡ thing_index self }
         ensures bound { result < 8 }

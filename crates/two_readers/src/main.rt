@@ -5,43 +5,19 @@
 mod event;
 mod plain;
 
-ghost use Rattle.std.specs.Prelude.{◌≤◌};
+ghost use Rattle.std.specs.Prelude.{◌≤◌, ◌<◌, length, IfOk};
 
 use crate::event::Event;
 use plain::read_plainly;
 use records::{Field, KEPT_FIELDS, Records};
 use refusals::Refusal;
 use std::alloc::{AllocError, Global};
+use std::array;
 
 // The bytes of the longer texts: the four with a meaning, and one without.
-const ALPHABET: [u8; 5] = [b'a', b',', b'"', b'\r', b'\n'];
+const ALPHABET: &[u8] = b"a,\"\r\n";
 
 const LONGEST: usize = 6;
-// How many texts of each length there are over the alphabet.
-const TEXTS: [u32; 7] = [1, 5, 25, 125, 625, 3_125, 15_625];
-
-fn log_fields(log: &mut Vec<Event>, fields: &[Field<'_>]) -> Result<(), AllocError> {
-    for field in fields {
-        match *field {
-            Field::Bare { part, at } => log.push(Event::Bare {
-                at,
-                len: part.len(),
-            })?,
-            Field::Quoted { part, at } => log.push(Event::Quoted {
-                at,
-                len: part.len(),
-            })?,
-        }
-    }
-    Ok(())
-}
-
-fn log_refusal(log: &mut Vec<Event>, refusal: Refusal) -> Result<(), AllocError> {
-    if let Refusal::MalformedRecord { at } = refusal {
-        log.push(Event::Fault { at })?;
-    }
-    Ok(())
-}
 
 fn read_records(heap: Global, text: &[u8]) -> Result<Vec<Event>, AllocError> {
     let mut log = Vec::new(heap);
@@ -49,16 +25,19 @@ fn read_records(heap: Global, text: &[u8]) -> Result<Vec<Event>, AllocError> {
     let Ok(mut records) = Records::new(text) else {
         return Ok(log);
     };
+    // Each record goes into the lent fields, which no iterator could hand out again.
     while let Some(line) = records.next(&mut fields) {
         match line {
             Ok(record) => {
-                log_fields(&mut log, &fields[0..record.kept()])?;
+                let kept = &fields[..record.kept()];
+                log.extend(kept.iter().map(|field| Event::from(*field)))?;
                 log.push(Event::Record {
                     start: record.start,
                     next: record.next,
                 })?;
             }
-            Err(refusal) => log_refusal(&mut log, refusal)?,
+            Err(Refusal::MalformedRecord { at }) => log.push(Event::Fault { at })?,
+            Err(_) => {}
         }
     }
     Ok(log)
@@ -66,47 +45,33 @@ fn read_records(heap: Global, text: &[u8]) -> Result<Vec<Event>, AllocError> {
 
 // Whether the two readers agree on a text.
 fn agree(heap: Global, text: &[u8]) -> Result<bool, AllocError> {
-    let one = read_records(heap, text)?;
-    let two = read_plainly(heap, text)?;
-    Ok(one == two)
+    Ok(read_records(heap, text)? == read_plainly(heap, text)?)
 }
 
 // Makes the text number `n` of its length over the alphabet.
-fn make_text(text: &mut [u8], n: u32) {
-    let mut rest = n;
-    for b in text.iter_mut() {
-        *b = ALPHABET[(rest % 5) as usize];
-        rest /= 5;
-    }
-}
-
-// The texts of `len` bytes over the alphabet: on how many the readers differ.
-fn compare_over_alphabet(heap: Global, len: usize, texts: u32) -> Result<u32, AllocError>
-    requires { len ≤ 6 }
+fn make_text(text: &mut [u8], alphabet: &[u8], n: u32)
+    requires { 0 < length alphabet.now }
 {
-    let mut apart = 0u32;
-    for n in 0..texts {
-        let mut text = [0u8; LONGEST];
-        let part = &mut text[0..len];
-        make_text(part, n);
-        if !agree(heap, part)? {
-            apart = apart.saturating_add(1);
-        }
+    let mut rest = n as usize;
+    for byte in text {
+        *byte = alphabet[rest % alphabet.len()];
+        rest /= alphabet.len();
     }
-    Ok(apart)
 }
 
-// All texts of one and of two bytes: on how many the readers differ.
-fn compare_all_bytes(heap: Global) -> Result<u32, AllocError> {
-    let mut apart = 0u32;
-    for a in 0..=255u8 {
-        if !agree(heap, &[a])? {
-            apart = apart.saturating_add(1);
-        }
-        for b in 0..=255u8 {
-            if !agree(heap, &[a, b])? {
-                apart = apart.saturating_add(1);
-            }
+// The first texts of `len` bytes over the alphabet, so many of them: on how many the readers differ.
+fn count_apart(heap: Global, alphabet: &[u8], len: usize, texts: u32) -> Result<u32, AllocError>
+    requires nonempty { 0 < length alphabet.now }
+    requires short { len ≤ 6 }
+    ensures { IfOk result (λ apart. apart ≤ texts) }
+{
+    let mut apart = 0;
+    for n in 0..texts {
+        let mut text = [0; LONGEST];
+        let part = &mut text[..len];
+        make_text(part, alphabet, n);
+        if !agree(heap, part)? {
+            apart += 1;
         }
     }
     Ok(apart)
@@ -115,11 +80,12 @@ fn compare_all_bytes(heap: Global) -> Result<u32, AllocError> {
 fn main(rt: HostRuntime) -> anyhow::Result<()> {
     let heap = rt.alloc();
     for len in 0..=LONGEST {
-        let texts = TEXTS[len];
-        let apart = compare_over_alphabet(heap, len, texts)?;
+        let texts = 5u32.pow(len as u32);
+        let apart = count_apart(heap, ALPHABET, len, texts)?;
         println!(rt; "{texts} texts of {len} bytes over five bytes, read apart: {apart}")?;
     }
-    let apart = compare_all_bytes(heap)?;
+    let bytes: [u8; 256] = array::from_fn(|i| i as u8);
+    let apart = count_apart(heap, &bytes, 1, 256)? + count_apart(heap, &bytes, 2, 65_536)?;
     println!(rt; "65792 texts of one and two bytes, read apart: {apart}")?;
     Ok(())
 }

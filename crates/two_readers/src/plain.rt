@@ -1,3 +1,5 @@
+ghost use Rattle.std.specs.Prelude.{◌≤◌, length};
+
 use crate::event::Event;
 use std::alloc::{AllocError, Global};
 
@@ -24,111 +26,131 @@ enum Symbol {
     Other,
 }
 
+impl Symbol {
+    // The symbol at the front of the rest of a text.
+    fn first_of(rest: &[u8]) -> Symbol {
+        match rest {
+            [] => Symbol::End,
+            [b',', ..] => Symbol::Comma,
+            [b'"', ..] => Symbol::Quote,
+            [b'\r', b'\n', ..] => Symbol::LineBreak,
+            [b'\r', ..] => Symbol::Cr,
+            [b'\n', ..] => Symbol::Lf,
+            _ => Symbol::Other,
+        }
+    }
+}
+
 #[derive(Clone, Copy)]
 enum Action {
     Go(State),
     EndField,
     EndRecord,
     Fault,
+    // A record begins behind this byte.
+    Begin,
 }
 
-fn symbol_at(text: &[u8], i: usize) -> Symbol {
-    if i >= text.len() {
-        return Symbol::End;
-    }
-    let b = text[i];
-    if b == b',' {
-        Symbol::Comma
-    } else if b == b'"' {
-        Symbol::Quote
-    } else if b == b'\n' {
-        Symbol::Lf
-    } else if b != b'\r' {
-        Symbol::Other
-    } else if i + 1 < text.len() && text[i + 1] == b'\n' {
-        Symbol::LineBreak
-    } else {
-        Symbol::Cr
-    }
-}
-
-fn action_at(state: State, symbol: Symbol) -> Action {
-    match (state, symbol) {
-        (State::Quoted, Symbol::Quote) => Action::Go(State::AfterQuote),
-        (State::Quoted, Symbol::End) => Action::Fault,
-        (State::Quoted, _) => Action::Go(State::Quoted),
-        (_, Symbol::Comma) => Action::EndField,
-        (_, Symbol::LineBreak) => Action::EndRecord,
-        (_, Symbol::End) => Action::EndRecord,
-        (_, Symbol::Cr) => Action::Fault,
-        (_, Symbol::Lf) => Action::Fault,
-        (State::Start, Symbol::Quote) => Action::Go(State::Quoted),
-        (State::AfterQuote, Symbol::Quote) => Action::Go(State::Quoted),
-        (_, Symbol::Quote) => Action::Fault,
-        (State::AfterQuote, Symbol::Other) => Action::Fault,
-        (_, Symbol::Other) => Action::Go(State::Bare),
+impl Action {
+    fn at(state: State, symbol: Symbol) -> Action {
+        match (state, symbol) {
+            (State::Break, _) => Action::Begin,
+            (State::Skip, Symbol::LineBreak) => Action::Go(State::Break),
+            (State::Skip, _) => Action::Go(State::Skip),
+            (State::Quoted, Symbol::Quote) => Action::Go(State::AfterQuote),
+            (State::Quoted, Symbol::End) => Action::Fault,
+            (State::Quoted, _) => Action::Go(State::Quoted),
+            (_, Symbol::Comma) => Action::EndField,
+            (_, Symbol::LineBreak | Symbol::End) => Action::EndRecord,
+            (_, Symbol::Cr | Symbol::Lf) => Action::Fault,
+            (State::Start | State::AfterQuote, Symbol::Quote) => Action::Go(State::Quoted),
+            (_, Symbol::Quote) => Action::Fault,
+            (State::AfterQuote, Symbol::Other) => Action::Fault,
+            (_, Symbol::Other) => Action::Go(State::Bare),
+        }
     }
 }
 
-// The field from `first` up to `end`.
-fn field_event(state: State, first: usize, end: usize) -> Event {
-    let len = end.saturating_sub(first);
-    match state {
-        State::AfterQuote => Event::Quoted {
-            at: first,
-            len: len.saturating_sub(2),
-        },
-        _ => Event::Bare { at: first, len },
+// A reader by the table of states.
+#[derive(Drop)]
+struct Reader {
+    log: Vec<Event>,
+    // How much of the log is of whole records.
+    whole: usize,
+    state: State,
+    // Where the record and its field begin.
+    record: usize,
+    field: usize,
+}
+
+impl Reader {
+    fn new(heap: Global) -> Reader {
+        Reader {
+            log: Vec::new(heap),
+            whole: 0,
+            state: State::Start,
+            record: 0,
+            field: 0,
+        }
+    }
+
+    // The field that ends in front of a place.
+    fn end_field(&mut self, end: usize) -> Result<(), AllocError> {
+        let at = self.field;
+        let len = end.saturating_sub(at);
+        self.log.push(match self.state {
+            State::AfterQuote => Event::Quoted {
+                at,
+                len: len.saturating_sub(2),
+            },
+            _ => Event::Bare { at, len },
+        })?;
+        Ok(())
+    }
+
+    // One place of the text, or its end.
+    fn step(&mut self, text: &[u8], at: usize) -> Result<(), AllocError>
+        requires { at ≤ length text.now }
+    {
+        match Action::at(self.state, Symbol::first_of(&text[at..])) {
+            Action::Go(state) => self.state = state,
+            Action::EndField => {
+                self.end_field(at)?;
+                self.state = State::Start;
+                self.field = at + 1;
+            }
+            Action::EndRecord => {
+                self.end_field(at)?;
+                self.log.push(Event::Record {
+                    start: self.record,
+                    next: text.len().min(at + 2),
+                })?;
+                self.state = State::Break;
+            }
+            Action::Fault => {
+                self.log.truncate(self.whole);
+                self.log.push(Event::Fault { at })?;
+                self.state = State::Skip;
+            }
+            Action::Begin => {
+                self.state = State::Start;
+                self.record = at + 1;
+                self.field = at + 1;
+                self.whole = self.log.len();
+            }
+        }
+        Ok(())
     }
 }
 
 // What a text has, by the table of states, one byte after another.
 pub fn read_plainly(heap: Global, text: &[u8]) -> Result<Vec<Event>, AllocError> {
-    let mut log = Vec::new(heap);
-    let mut state = State::Start;
-    let mut start = 0;
-    let mut first = 0;
-    let mut mark = 0;
-    for i in 0..=text.len() {
-        let symbol = symbol_at(text, i);
-        match state {
-            State::Break => {
-                state = State::Start;
-                start = i + 1;
-                first = i + 1;
-                mark = log.len();
-                continue;
-            }
-            State::Skip => {
-                if let Symbol::LineBreak = symbol {
-                    state = State::Break;
-                }
-                continue;
-            }
-            _ => {}
-        }
-        if i == text.len() && start == i {
+    let mut reader = Reader::new(heap);
+    for at in 0..=text.len() {
+        if at == text.len() && reader.record == at {
             break;
         }
-        match action_at(state, symbol) {
-            Action::Go(next) => state = next,
-            Action::EndField => {
-                log.push(field_event(state, first, i))?;
-                state = State::Start;
-                first = i + 1;
-            }
-            Action::EndRecord => {
-                log.push(field_event(state, first, i))?;
-                let next = text.len().min(i + 2);
-                log.push(Event::Record { start, next })?;
-                state = State::Break;
-            }
-            Action::Fault => {
-                log.truncate(mark);
-                log.push(Event::Fault { at: i })?;
-                state = State::Skip;
-            }
-        }
+        reader.step(text, at)?;
     }
-    Ok(log)
+    Ok(reader.log)
 }

@@ -1,4 +1,3 @@
-pub mod Numerals
 pub mod Spellings
 pub mod Refusing
 pub mod Named

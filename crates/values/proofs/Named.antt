@@ -1,8 +1,8 @@
 -- Every name is well spelt.
-use Rattle.std.proofs.Common.{◌≡◌, ◌<◌, ◌≤◌, true, length, arith, length-take}
+use Rattle.std.proofs.Common.{◌≡◌, ◌<◌, ◌≤◌, true, length, sym, ◌∙◌, arith, length-take}
 use Rattle.values.specs.Names.{spells_name, spelling}
 use Rattle.values.specs.declared.name.Name.{Name}
-use Rattle.values.proofs.Spellings.{a_name}
+use Rattle.values.proofs.Spellings.{by_letters}
 
 pub spelt_name : (n : Name) → spells_name (spelling n) ≡ true
 spelt_name n =
@@ -10,4 +10,4 @@ spelt_name n =
     let fits : n.len ≤ 24 = n.fits in
     let whole : length n.bytes ≡ 24 = n.whole in
     let long = length-take n.len n.bytes in
-    a_name (spelling n) (omega arith) (omega arith) n.spelt
+    sym (by_letters (spelling n) (omega arith) (omega arith)) ∙ n.spelt

@@ -10,7 +10,7 @@ use Rattle.values.specs.Lines.{line_break, line_of, Written}
 two_digits : (n : ℕ) → 10 ≤ n → n < 100 → decimal n ≡ (48 + n / 10) ∷ (48 + n % 10) ∷ []
 two_digits n ge lt = decimal_step n ge (omega arith) ∙ ap (λ l. l ++ (48 + n % 10) ∷ []) (decimal_digit (n / 10) (omega arith))
 
-code_small : (r : Refusal) → code_of r < 100
+pub code_small : (r : Refusal) → code_of r < 100
 code_small r = grind arith
 
 -- n is the refusal's number

@@ -1,12 +1,12 @@
 -- The number that a part writes.
-use Rattle.std.specs.Prelude.{ℕ, ◌+◌, ◌-◌, ◌*◌, Bool, true, cond, not, ◌&&◌, List, [], ◌∷◌, length, Some, None, Option, ◌==◌, nat_le, nat_lt, slice_index}
+use Rattle.std.specs.List.{list_all}
+use Rattle.std.specs.Prelude.{ℕ, ◌+◌, ◌-◌, ◌*◌, Bool, cond, not, ◌&&◌, List, [], ◌∷◌, length, Some, None, Option, ◌==◌, nat_le, nat_lt, slice_index}
 
 abbrev pub digit : ℕ → Bool
 digit c = nat_le 48 c && nat_le c 57
 
 abbrev pub digits : List ℕ → Bool
-digits [] = true
-digits (c ∷ cs) = digit c && digits cs
+digits s = list_all digit s
 
 -- the value of digits, after those that write n
 abbrev pub value_after : ℕ → List ℕ → ℕ

@@ -7,6 +7,7 @@ use refusals::{Answer, Refusal};
 // A line that is provided for an answer has at least so many bytes.
 pub const LINE_LENGTH: usize = 16;
 
+// The library's `char::from_digit` would give an `Option` of a `char`.
 fn digit(n: u32) -> u8
     requires { n < 10 }
     ensures { result ≡ 48 + n }
@@ -20,12 +21,12 @@ fn put(line: &mut [u8], text: &[u8]) -> usize
     ensures len { result ≡ length text.now }
     ensures line { line.new ≡ text.now ++ drop (length text.now) line.old }
 {
-    let n = text.len();
-    line[0..n].copy_from_slice(text);
-    n
+    line[..text.len()].copy_from_slice(text);
+    text.len()
 }
 
-// Writes the answer's line, with its line break, at the front of the line that is provided; answers how many bytes it
+// Into a line that is lent, with no heap and no Display:
+// writes the answer's line, with its line break, at the front of the line that is provided; answers how many bytes it
 // has. Those behind it stay as they were, and so do all of a line that is too short.
 pub fn write_answer(line: &mut [u8], answer: Answer) -> Result<usize, Refusal>
     ensures { Written line.old answer line.new result }
@@ -39,6 +40,7 @@ pub fn write_answer(line: &mut [u8], answer: Answer) -> Result<usize, Refusal>
         Answer::Denied => Ok(put(line, b"deny\r\n")),
         Answer::Refused(refusal) => {
             let code = refusal.code();
+            // Two texts, so that each shows its line whole.
             if code < 10 {
                 let mut text = *b"refused,N\r\n";
                 text[8] = digit(code);

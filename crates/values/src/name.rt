@@ -5,6 +5,7 @@ ghost use Rattle.values.specs.Letters.{letters, Blank};
 pub(crate) const LONGEST: usize = 24;
 
 // A name of 1 to 24 letters, digits or underscores; the bytes behind it are 0.
+// An array with a length beside it, so that a name is copied and needs no heap.
 #[derive(Clone, Copy)]
 pub struct Name {
     pub(crate) bytes: [u8; LONGEST],

@@ -1,7 +1,7 @@
 // How names are read from a text and told apart.
 ghost use Rattle.std.specs.Prelude.{◌≡◌, codes};
 ghost use Rattle.values.specs.Letters.{letter};
-ghost use Rattle.values.specs.Names.{Named, spelling, same_spelling};
+ghost use Rattle.values.specs.Names.{spells_name, Named, spelling, same_spelling};
 ghost use Rattle.values.specs.Sameness;
 
 use crate::name::{LONGEST, Name};
@@ -10,30 +10,26 @@ use index_set::Same;
 fn is_letter(b: u8) -> bool
     ensures { result ≡ letter b }
 {
-    match char::from(b) {
-        'a'..='z' | 'A'..='Z' | '0'..='9' | '_' => true,
-        _ => false,
-    }
+    b.is_ascii_alphanumeric() || b == b'_'
+}
+
+fn spells_name(part: &[u8]) -> bool
+    ensures { result ≡ spells_name part.now }
+{
+    (1..=LONGEST).contains(&part.len()) && part.iter().all(|&b| is_letter(b))
 }
 
 impl Name {
-    // The name that the bytes spell; none where they are badly written.
+    // The name that the bytes spell; none where they are badly written, of which there is no more to say.
     pub fn new(part: &[u8]) -> Option<Name>
         ensures { Named part.now result }
     {
-        let len = part.len();
-        if len == 0 || len > LONGEST {
+        if !spells_name(part) {
             return None;
         }
-        let mut bytes = [0u8; LONGEST];
-        let mut i = 0;
-        while i < len {
-            if !is_letter(part[i]) {
-                return None;
-            }
-            bytes[i] = part[i];
-            i += 1;
-        }
+        let len = part.len();
+        let mut bytes = [0; LONGEST];
+        bytes[..len].copy_from_slice(part);
         Some(Name { bytes, len })
     }
 
@@ -41,7 +37,7 @@ impl Name {
     pub fn filler() -> Name
         ensures { spelling result ≡ codes "_" }
     {
-        let mut bytes = [0u8; LONGEST];
+        let mut bytes = [0; LONGEST];
         bytes[0] = b'_';
         Name { bytes, len: 1 }
     }
@@ -49,7 +45,7 @@ impl Name {
     pub fn as_bytes(&self) -> &[u8]
         ensures { result.now ≡ spelling self.now }
     {
-        &self.bytes[0..self.len]
+        &self.bytes[..self.len]
     }
 }
 
@@ -64,8 +60,6 @@ impl Same for Name {
     ghost transitive = { λ x y z p q. Sameness.transitive (spelling x) (spelling y) (spelling z) p q };
 
     fn same(&self, other: &Name) -> bool {
-        let m = self.len;
-        let n = other.len;
-        self.bytes[0..m] == other.bytes[0..n]
+        self.as_bytes() == other.as_bytes()
     }
 }

@@ -7,19 +7,13 @@ const MOST_DIGITS: usize = 6;
 pub fn number(part: &[u8]) -> Option<u32>
     ensures { result ≡ number_of part.now }
 {
-    if part.len() > MOST_DIGITS {
+    if part.len() > MOST_DIGITS || matches!(part, [] | [b'0', _, ..]) {
         return None;
     }
-    match part {
-        [] | [b'0', _, ..] => return None,
-        _ => {}
-    }
-    let mut n: u32 = 0;
-    for b in part {
-        match *b {
-            b'0'..=b'9' => n = 10 * n + u32::from(*b - b'0'),
-            _ => return None,
-        }
+    let mut n = 0;
+    // A loop and no fold: no bound is supplied for what a closure adds up.
+    for &b in part {
+        n = 10 * n + char::from(b).to_digit(10)?;
     }
     Some(n)
 }

@@ -2,7 +2,7 @@ use Rattle.std.proofs.Common.{◌≡◌, ◌-◌, length}
 use Rattle.fields.proofs.show_text.Given as goal
 
 abbrev pub invariant-loop-line : goal.invariant-loop-line
-invariant-loop-line l = length l.fields ≡ 40
+invariant-loop-line g l = length l.fields ≡ 40
 
 abbrev pub decreases-loop-line : goal.decreases-loop-line
-decreases-loop-line l = length l.records.text.now - l.records.at
+decreases-loop-line g l = length l.records.text.now - l.records.at

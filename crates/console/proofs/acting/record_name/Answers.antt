@@ -1,9 +1,9 @@
-use Rattle.std.proofs.Common.{◌∙◌}
+use Rattle.std.proofs.Common.{◌∙◌, arith}
 use Rattle.console.proofs.Fields.{first_value, no_value}
 use Rattle.console.proofs.acting.record_name.Goals as goal
 
-pub returns-then-fields-gt0 : goal.returns-then-fields-gt0
-returns-then-fields-gt0 c = c.value.ensures ∙ first_value c.args.fields.now _ c.if-fields-gt0.true
+pub returns-in-empty : goal.returns-in-empty
+returns-in-empty c = no_value c.args.fields.now (omega (arith, c.in-empty.len_below))
 
-pub returns-else-fields-gt0 : goal.returns-else-fields-gt0
-returns-else-fields-gt0 c = no_value c.args.fields.now c.if-fields-gt0.false
+pub returns-in-len1-up : goal.returns-in-len1-up
+returns-in-len1-up c = c.value.ensures ∙ first_value c.args.fields.now _ (omega (arith, c.in-len1-up.len_at_least))

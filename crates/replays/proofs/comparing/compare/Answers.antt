@@ -12,8 +12,8 @@ returns g c =
     let b = c.replay-2.ensures in
     let r = c.replay.result.house in
     let q = c.replay-2.result.house in
-    let s = state_of g.S.PairSet.pairs g.T.PairSet.pairs r in
-    let t = state_of g.U.PairSet.pairs g.V.PairSet.pairs q in
+    let s = state_of r in
+    let t = state_of q in
     record {
       one = a;
       two = b;

@@ -1,21 +1,14 @@
-use Rattle.std.proofs.Common.{sym, ◌∙◌, arith}
-use Rattle.stores.proofs.Prefixes.{agree_none, agree_before, agree_more, agree_row, agree_all, told_same, told_apart}
+use Rattle.std.proofs.Common.{◌≡◌, None, rules}
+use Rattle.stores.proofs.Differences.{differ, same_where_none, first_where_some}
 use Rattle.stores.proofs.whole_sets.first_difference.Goals as goal
 
-pub loop-left-init : goal.loop-left-init
-loop-left-init g c = agree_none _ _
-
-pub loop-right-preserved : goal.loop-right-preserved
-loop-right-preserved g c =
-    agree_more _ _ _ _ c.loop-right.invariant c.loop-left-test.true c.loop-right-test.true
-    (sym c.contains.ensures ∙ told_same _ _ c.if-contains.false ∙ c.contains-in-loop-right.ensures)
-
-pub loop-left-preserved : goal.loop-left-preserved
-loop-left-preserved g c = agree_row _ _ (g.S.PairSet.bounded _) (g.T.PairSet.bounded _) _ _ c.loop-right.invariant (omega arith)
-
-pub returns-then-contains : goal.returns-then-contains
-returns-then-contains g c =
-    (λ e. told_apart _ _ c.if-contains.true (c.contains.ensures ∙ e ∙ sym c.contains-in-loop-right.ensures), agree_before _ _ _ _ c.loop-right.invariant)
-
 pub returns : goal.returns
-returns g c = agree_all _ _ (g.S.PairSet.bounded _) (g.T.PairSet.bounded _) _ c.loop-left.invariant (omega arith)
+returns g c =
+    let f = c.in_ok-left.ensures (differ (g.S.PairSet.pairs c.args.one.now) (g.T.PairSet.pairs c.args.two.now)) (λ l r b p q k. search rules) in
+    first_where_some _ _ (g.S.PairSet.bounded _) (g.T.PairSet.bounded _) _ _ f.1
+
+pub returns-in_err-left : goal.returns-in_err-left
+returns-in_err-left g c =
+    let f = c.in_err-left.ensures (differ (g.S.PairSet.pairs c.args.one.now) (g.T.PairSet.pairs c.args.two.now)) (λ l r b p q k. search rules) in
+    let e : c.from_residual.result ≡ None = search rules in
+    rw e (same_where_none _ _ (g.S.PairSet.bounded _) (g.T.PairSet.bounded _) f.1)

@@ -1,8 +1,9 @@
-use Rattle.house_parts.proofs.Placing.{place_in, place_out}
+use Rattle.std.proofs.Common.{ap, rules, ◌∙◌}
+use Rattle.std.specs.Option.{option_flatten}
+use Rattle.house_parts.specs.Holding.{holder_of}
+use Rattle.house_parts.proofs.Placing.{holder_got}
 use Rattle.house_parts.proofs.leases.Leases.holder.Goals as goal
 
-pub returns-then-unit-ge-UNITS : goal.returns-then-unit-ge-UNITS
-returns-then-unit-ge-UNITS c = place_out c.args.self.now.users c.args.unit c.if-unit-ge-UNITS.true
-
 pub returns : goal.returns
-returns c = place_in c.args.self.now.users c.args.unit c.if-unit-ge-UNITS.false
+unfolding holder_of
+returns c = c.flatten.ensures ∙ ap option_flatten c.copied.ensures ∙ holder_got c.args.self.now.users c.args.unit c.get.result (search rules) c.get.ensures.lookup

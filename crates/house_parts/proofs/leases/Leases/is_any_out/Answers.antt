@@ -1,12 +1,12 @@
-use Rattle.std.proofs.Common.{rules}
-use Rattle.search.proofs.Somes.{some_none, some_more, some_answers}
+use Rattle.std.proofs.Common.{is_some, rules, tests, ◌∙◌}
+use Rattle.std.proofs.lemmas.Iterator.{YieldsList-from_slice}
+use Rattle.std.proofs.lemmas.Iterator.Search.{any_from_yields_List}
+use Rattle.house_parts.specs.Holding.{holder_of}
+use Rattle.house_parts.proofs.Placing.{place_taken}
 use Rattle.house_parts.proofs.leases.Leases.is_any_out.Goals as goal
 
-pub loop-unit-init : goal.loop-unit-init
-loop-unit-init c = some_none _
-
-pub loop-unit-preserved : goal.loop-unit-preserved
-loop-unit-preserved c = some_more _ _ c.loop-unit.invariant (search rules)
-
-pub returns-then-is_some : goal.returns-then-is_some
-returns-then-is_some c = some_answers _ _ c.loop-unit.unit c.loop-unit-test.true (search rules)
+pub returns : goal.returns
+unfolding holder_of
+returns c =
+    any_from_yields_List is_some _ _ _ c.any.ensures.ran (YieldsList-from_slice c.args.self.now.users cc) (λ x b q k. search (rules, tests))
+    ∙ place_taken c.args.self.now.users (search rules)

@@ -1,10 +1,15 @@
-use Rattle.std.proofs.Common.{None, rules}
-use Rattle.house_parts.proofs.Placing.{place_with, rows_cleared}
+use Rattle.std.proofs.Common.{ap, ◌∙◌, rules}
+use Rattle.rules.specs.States.{with_at}
+use Rattle.house_parts.specs.Holding.{user_of, active_of}
+use Rattle.house_parts.proofs.Placing.{user_set, roles_cleared}
 use Rattle.house_parts.proofs.sessions.Sessions.end.Goals as goal
 
 pub returns : goal.returns
+unfolding user_of active_of
 returns c =
     record {
-      users = place_with c.args.self.now.users c.args.session None c.requires (search rules);
-      active = rows_cleared c.args.self.now.active c.args.session c.new.result c.requires (search rules) c.new.ensures.empty;
+      users =
+          user_set c.args.self.now.sessions c.args.session (search rules) c.requires c.new.result
+          ∙ ap (with_at (user_of c.args.self.now) c.args.session) c.new.ensures.user;
+      active = roles_cleared c.args.self.now.sessions c.args.session (search rules) c.requires c.new.result c.new.ensures.active;
     }

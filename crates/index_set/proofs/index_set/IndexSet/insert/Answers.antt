@@ -8,17 +8,25 @@ use Rattle.index_set.proofs.Inserts.{inserts}
 use Rattle.index_set.proofs.Stored.{items_length}
 use Rattle.index_set.proofs.index_set.IndexSet.insert.Goals as goal
 
+pub invariant_of-self : goal.invariant_of-self
+invariant_of-self g c =
+    let s = c.args.self.now in
+    let e = g.X.Same.alike in
+    let m = take_more_set s.places.now s.len c.args.x (omega (arith, s.within, s.fits)) in
+    record {
+      within = omega arith;
+      fits = simp length-set s.fits;
+      distinct = ap (is_distinct e) m ∙ apart_push e (items_of s) c.args.x (all_from_every _ (items_of s) c.in_default.ensures.words) s.distinct;
+    }
+
 pub returns : goal.returns
 returns g c =
     let s = c.args.self.now in
-    let e = g.X.Same.alike in
-    let n = items_length e s c.requires in
-    let m = take_more_set s.places.now s.len c.args.x (omega arith) in
+    let n = items_length s in
     let a = c.in_default.ensures in
     record {
-      orderly = (omega arith, simp length-set c.requires.1, ap (is_distinct e) m ∙ apart_push e (items_of s) c.args.x (all_from_every _ (items_of s) a.words) c.requires.2);
-      answer = inserts e (items_of s) c.args.x s.len s.limit a.place n (omega arith);
+      answer = inserts g.X.Same.alike (items_of s) c.args.x s.len s.limit a.place n (omega arith);
       words = (sym n, a.words, omega arith);
-      items = m;
+      items = take_more_set s.places.now s.len c.args.x (omega (arith, s.within, s.fits));
       limit = refl;
     }

@@ -17,7 +17,7 @@ invariant_of-self c =
     let s = c.args.self.now in
     let e = c.insert.ensures in
     let b = bounds_true c.args.left c.args.right c.if-left-ge-LEFTS.false c.if-right-ge-RIGHTS.false in
-    record { orderly = e.orderly; places = e.limit ∙ s.places; within = ap all_in_bounds e.items ∙ bounds_grown c.insert.result (items_of s.list) _ b s.within }
+    record { places = e.limit ∙ s.places; within = ap all_in_bounds e.items ∙ bounds_grown c.insert.result (items_of s.list) _ b s.within }
 
 pub returns-in-Inserted : goal.returns-in-Inserted
 returns-in-Inserted c =
@@ -40,5 +40,5 @@ unreachable-requires c =
     let s = c.args.self.now in
     let b = bounds_true c.args.left c.args.right c.if-left-ge-LEFTS.false c.if-right-ge-RIGHTS.false in
     let t = c.in-Full.ensures.words in
-    let room = never_full (items_of s.list) (record { left = c.args.left; right = c.args.right }) b s.within s.orderly.2 t.0 in
+    let room = never_full (items_of s.list) (record { left = c.args.left; right = c.args.right }) b s.within s.list.distinct t.0 in
     absurd (omega (arith, t.1, s.places, room))

@@ -10,7 +10,7 @@ pub invariant_of-self : goal.invariant_of-self
 invariant_of-self c =
     let s = c.args.self.now in
     let e = c.shift_remove.ensures in
-    record { orderly = e.orderly; places = e.limit ∙ s.places; within = ap all_in_bounds e.items ∙ bounds_removed (items_of s.list) _ s.within }
+    record { places = e.limit ∙ s.places; within = ap all_in_bounds e.items ∙ bounds_removed (items_of s.list) _ s.within }
 
 pub returns-in-Some : goal.returns-in-Some
 returns-in-Some c =
@@ -18,7 +18,7 @@ returns-in-Some c =
     let t = c.in-Some.ensures.words in
     record {
       answer = sym (listed_found (items_of s.list) (record { left = c.args.left; right = c.args.right }) _ s.within t);
-      after = ap listed c.shift_remove.ensures.items ∙ listed_removed (items_of s.list) (record { left = c.args.left; right = c.args.right }) _ s.within s.orderly.2 t;
+      after = ap listed c.shift_remove.ensures.items ∙ listed_removed (items_of s.list) (record { left = c.args.left; right = c.args.right }) _ s.within s.list.distinct t;
     }
 
 pub returns-in-None : goal.returns-in-None

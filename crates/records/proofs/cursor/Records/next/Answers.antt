@@ -12,5 +12,5 @@ pub returns-in-Err : goal.returns-in-Err
 returns-in-Err c =
     let got = c.in-Err.ensures.reads in
     let next = c.behind_break-self.ensures in
-    let goes = over_fault c.args.self.now.text.now c.args.self.now.at c.behind_break-self.result c.if-self.false next.within c.in-Err.at _ got.1 next.behind in
-    record { text = refl; room = c.read_record.ensures.room; onward = (goes.ahead, goes.within); gives = (c.in-Err.at, refl, goes) }
+    let goes = over_fault c.args.self.now.text.now c.args.self.now.at c.behind_break-self.result c.if-self.false next.within c.in-Err.fault.at _ got.1 next.behind in
+    record { text = refl; room = c.read_record.ensures.room; onward = (goes.ahead, goes.within); gives = (c.in-Err.fault.at, c.from.ensures, goes) }

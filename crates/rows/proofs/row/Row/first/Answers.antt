@@ -1,12 +1,9 @@
-use Rattle.std.proofs.Common.{sym, rules}
-use Rattle.search.proofs.Finds.{first_none, first_more, first_found}
+use Rattle.std.proofs.Common.{rules}
+use Rattle.rows.proofs.Finding.{first_of_none, first_of_some}
 use Rattle.rows.proofs.row.Row.first.Goals as goal
 
-pub loop-number-init : goal.loop-number-init
-loop-number-init c = first_none _
+pub returns-then-self-eq0 : goal.returns-then-self-eq0
+returns-then-self-eq0 c = first_of_none c.args.self.bits c.if-self-eq0.true
 
-pub loop-number-preserved : goal.loop-number-preserved
-loop-number-preserved c = first_more _ _ c.loop-number.invariant (search rules)
-
-pub returns-then-contains : goal.returns-then-contains
-returns-then-contains c = sym (first_found _ 32 _ c.loop-number-test.true c.loop-number.invariant (search rules))
+pub returns-else-self-eq0 : goal.returns-else-self-eq0
+returns-else-self-eq0 c = first_of_some c.args.self.bits (search rules) c.if-self-eq0.false

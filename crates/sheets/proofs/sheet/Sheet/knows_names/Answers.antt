@@ -1,18 +1,16 @@
-use Rattle.std.proofs.Common.{sym}
-use Rattle.search.proofs.Somes.{all_none, all_more}
-use Rattle.sheets.proofs.Naming.{fails, passes}
+use Rattle.std.proofs.Common.{◌∙◌, ◌-◌, ap, rules, refl, tests, arith}
+use Rattle.std.proofs.lemmas.Iterator.{YieldsList-from_range}
+use Rattle.std.proofs.lemmas.Iterator.Search.{all_from_yields_List}
+use Rattle.forms.proofs.All.{all_is}
+use Rattle.names.specs.Spellings.{spellings}
+use Rattle.search.specs.Below.{all_below}
+use Rattle.sheets.specs.Judging.{known_at, all_named}
 use Rattle.sheets.proofs.sheet.Sheet.knows_names.Goals as goal
 
-pub loop-place-init : goal.loop-place-init
-loop-place-init c = all_none _
-
-pub loop-place-preserved : goal.loop-place-preserved
-loop-place-preserved c = all_more _ c.loop-place.place c.loop-place.invariant (sym c.if-not-is_known.ensures)
-
-pub returns-then-not-is_known : goal.returns-then-not-is_known
-returns-then-not-is_known c =
-    fails _ c.args.kind c.args.fields.now c.loop-place.place _ c.saturating_sub-place-end.ensures c.loop-place-test.true c.if-not-is_known.ensures
-
 pub returns : goal.returns
+unfolding all_named
 returns c =
-    passes _ c.args.kind c.args.fields.now c.loop-place.place _ c.saturating_sub-place-end.ensures c.loop-place.auto.place-end c.loop-place-test.false c.loop-place.invariant
+    let known = known_at (spellings c.args.self.now.names) c.args.form.now.kind c.args.form.now.values in
+    all_from_yields_List known _ _ c.all.result c.all.ensures.ran (YieldsList-from_range 0 c.places.result _ refl refl) (λ x b q k. search (rules, tests))
+    ∙ all_is known (c.places.result - 0)
+    ∙ ap (all_below known) (omega (arith, c.places.ensures))

@@ -9,12 +9,9 @@ returns c =
     let d : Draft = record {
       number = 0;
       counts = replicate 8 0;
-      permission_count = 0;
-      permissions = replicate 64 (record { device = 0; operation = 0 });
-      role_pair_count = 0;
-      role_pairs = replicate 64 (record { role = 0; environment_roles = c.new-row.result });
-      entry_count = 0;
-      entries = replicate 64 (record { environment_role = 0; conditions = c.new-row.result });
+      permissions = c.empty.result;
+      role_pairs = c.empty-2.result;
+      entries = c.empty-3.result;
       relations = replicate 12 c.new.result;
     } in
-    (refl, none_counted d refl refl refl refl, related_none d c.new.result refl c.new.ensures)
+    (refl, none_counted d refl c.empty.ensures c.empty-2.ensures c.empty-3.ensures, related_none d c.new.result refl c.new.ensures)

@@ -1,0 +1,7 @@
+use Rattle.std.proofs.Common.{◌≡◌, take}
+use Rattle.rows.specs.Rows.{numbers}
+use Rattle.conditions.specs.Active.{active}
+use Rattle.conditions.proofs.activation.active_roles.Given as goal
+
+abbrev pub invariant-loop-entry : goal.invariant-loop-entry
+invariant-loop-entry g l = numbers l.roles ≡ active (g.C.Conditions.holding l.source) (take l.entry-index l.entries)
