@@ -10,7 +10,7 @@ use stores::{PairSet, copy};
 use tables::{Draft, Relation};
 
 impl<S: PairSet, T: PairSet> Assignments<S, T> {
-    // Nothing is assigned, whatever the two sets held before. They are two parameters, here and above: their makes differ.
+    // Nothing is assigned, whatever the two sets held before. Two parameters: the struct of both is made here.
     pub fn new(mut role_pairs: S, mut permissions: T) -> Assignments<S, T>
         ensures { assigned S.PairSet.pairs T.PairSet.pairs result ≡ nothing_assigned }
     {

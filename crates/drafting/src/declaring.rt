@@ -18,7 +18,7 @@ pub(crate) fn new_name(form: &Form<'_, '_>) -> Name
     Name::new(form.value_at(0)).unwrap()
 }
 
-// Counts one more thing, as `Draft::declare` does, and says that there are eight counts still: the sheet's own fact asks it.
+// Counts one more thing, as `Draft::declare` does, and says besides that there were eight counts: the sheet's own fact asks it.
 pub(crate) fn count_up(draft: &mut Draft, thing: Thing)
     requires { things draft.old thing < 32 }
     ensures after { draft.new ≡ with_thing draft.old thing }

@@ -43,7 +43,7 @@ impl<'a> Names<'a> {
     }
 
     // The number of the name that the bytes spell in a table; none where no such name is declared there.
-    // An arm for each table, here and below: a register has its limit in its type, so that a loan cannot change it.
+    // An arm for each table, here and below: registers of three types cannot be lent by one function.
     pub fn find(&self, table: NameTable, value: &[u8]) -> Option<u32>
         ensures { result ≡ place_of bytes_eq (spellings self.now table) value.now }
     {

@@ -58,11 +58,12 @@ impl Sheet<'_> {
         requires { form.now.kind ≡ Permission }
         ensures { result ≡ permitted (spellings self.now.names) self.now.draft form.now.values }
     {
+        if !(self.is_known(form, 0) && self.is_known(form, 1)) {
+            return false;
+        }
         let device = self.number(form, 0);
         let operation = self.number(form, 1);
-        self.is_known(form, 0)
-            && self.is_known(form, 1)
-            && self.draft.permission_number(device, operation).is_some()
+        self.draft.permission_number(device, operation).is_some()
     }
 
     // Whether what the record declares is declared already.
