@@ -3,3 +3,4 @@ mod Timing
 mod Splits
 pub mod Actives
 pub mod Gathering
+pub mod Asking

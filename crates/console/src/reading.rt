@@ -88,7 +88,8 @@ impl<'a, S: PairSet, T: PairSet> Console<'a, S, T> {
         };
         let mut answers = Vec::with_capacity(heap, LONGEST_ANSWER * text.len())?;
         let mut line = [0u8; LINE_LENGTH];
-        while let Some(reply) = self.reply(&mut records, &mut line) {
+        // The line is long enough.
+        while let Some(reply) = self.record(&mut records, &mut line).unwrap() {
             // There is memory for all answers.
             answers.extend_from_slice(&line[0..reply.written]).unwrap();
         }

@@ -117,10 +117,10 @@ impl Kind {
     pub fn column(self, place: usize) -> Column
         ensures { result ≡ column_at self place }
     {
-        self.columns()
-            .get(place)
-            .copied()
-            .unwrap_or(self.repeated().unwrap_or(Column::Flag))
+        match self.columns().get(place) {
+            Some(column) => *column,
+            None => self.repeated().unwrap_or(Column::Flag),
+        }
     }
 
     // Whether a record of the kind may have that many fields, its name included.

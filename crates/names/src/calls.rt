@@ -1,13 +1,15 @@
-ghost use Rattle.std.specs.Prelude.{◌≡◌, ◌<◌, length, None};
+ghost use Rattle.std.specs.Prelude.{◌≡◌, ◌<◌, ◌≤◌, length, None};
 ghost use Rattle.index_set.specs.Found.{place_of};
+ghost use Rattle.index_set.specs.Items.{items_of};
 ghost use Rattle.std.specs.Str.{bytes_eq};
 ghost use Rattle.tables.specs.Limits.{table_limit};
 ghost use Rattle.values.specs.Names.{spelling};
 ghost use Rattle.names.specs.Tables.{table_of};
-ghost use Rattle.names.specs.Spellings.{spellings, with_name, Made};
+ghost use Rattle.names.specs.Spellings.{names_of, spellings, with_name, Made};
 
 use crate::names::{NAME_PLACES, Names, THINGS, UNITS};
-use crate::register::Register;
+use crate::register::{Register, place};
+use index_set::IndexSet;
 use kinds::NameTable;
 use refusals::Refusal;
 use tables::Thing;
@@ -42,27 +44,35 @@ impl<'a> Names<'a> {
         })
     }
 
-    // The number of the name that the bytes spell in a table; none where no such name is declared there.
-    // An arm for each table, here and below: registers of three types cannot be lent by one function.
-    pub fn find(&self, table: NameTable, value: &[u8]) -> Option<u32>
-        ensures { result ≡ place_of bytes_eq (spellings self.now table) value.now }
+    // The names of a table.
+    fn names(&self, table: NameTable) -> &IndexSet<'a, Name>
+        ensures names { items_of result.now ≡ names_of self.now table }
+        ensures few { result.now.limit ≤ 64 }
     {
         match table {
             NameTable::Things(thing) => match thing {
-                Thing::User => self.users.place(value),
-                Thing::Role => self.roles.place(value),
-                Thing::Device => self.devices.place(value),
-                Thing::Operation => self.operations.place(value),
-                Thing::DeviceRole => self.device_roles.place(value),
-                Thing::Condition => self.conditions.place(value),
-                Thing::EnvironmentRole => self.environment_roles.place(value),
-                Thing::Unit => self.units.place(value),
+                Thing::User => &self.users.names,
+                Thing::Role => &self.roles.names,
+                Thing::Device => &self.devices.names,
+                Thing::Operation => &self.operations.names,
+                Thing::DeviceRole => &self.device_roles.names,
+                Thing::Condition => &self.conditions.names,
+                Thing::EnvironmentRole => &self.environment_roles.names,
+                Thing::Unit => &self.units.names,
             },
-            NameTable::RolePairs => self.role_pairs.place(value),
+            NameTable::RolePairs => &self.role_pairs.names,
         }
     }
 
+    // The number of the name that the bytes spell in a table; none where no such name is declared there.
+    pub fn find(&self, table: NameTable, value: &[u8]) -> Option<u32>
+        ensures { result ≡ place_of bytes_eq (spellings self.now table) value.now }
+    {
+        place(self.names(table), value)
+    }
+
     // Declares a name that a table lacks and has room for.
+    // An arm for each table: registers of three types cannot be lent by one function.
     pub fn declare(&mut self, table: NameTable, name: Name)
         requires absent { place_of bytes_eq (spellings self.old table) (spelling name) ≡ None }
         requires room { length (spellings self.old table) < table_limit (table_of table) }

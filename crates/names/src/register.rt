@@ -29,15 +29,6 @@ impl<'a, const LIMIT: usize> Register<'a, LIMIT> {
         Register { names }
     }
 
-    // The place of the name that the bytes spell.
-    pub(crate) fn place(&self, value: &[u8]) -> Option<u32>
-        ensures { result ≡ place_of bytes_eq (spelt (items_of self.now.names)) value.now }
-    {
-        let name = Name::new(value)?;
-        let index = self.names.index_of(&name)?;
-        Some(index as u32)
-    }
-
     // Puts a name in behind the others.
     pub(crate) fn put(&mut self, name: Name)
         requires absent { place_of bytes_eq (spelt (items_of self.old.names)) (spelling name) ≡ None }
@@ -46,4 +37,14 @@ impl<'a, const LIMIT: usize> Register<'a, LIMIT> {
     {
         self.names.insert(name);
     }
+}
+
+// The place of the name that the bytes spell among the names of a register.
+pub(crate) fn place(names: &IndexSet<Name>, value: &[u8]) -> Option<u32>
+    requires { names.now.limit ≤ 64 }
+    ensures { result ≡ place_of bytes_eq (spelt (items_of names.now)) value.now }
+{
+    let name = Name::new(value)?;
+    let index = names.index_of(&name)?;
+    Some(index as u32)
 }

@@ -9,7 +9,7 @@ use Rattle.std.proofs.lemmas.Bool.{cases_eq, ne_eqb}
 use Rattle.std.proofs.lemmas.Bool.Decides.{nat_tests}
 use Rattle.search.specs.Below.{some_below}
 use Rattle.search.proofs.Somes.{some_at, some_never}
-use Rattle.rows.specs.Numbers.{bits_of, no_numbers, both}
+use Rattle.rows.specs.Numbers.{bits_of, no_numbers, both, outside}
 
 pub bits_none : bits_of 0 ≡ no_numbers
 unfolding bits_of no_numbers
@@ -60,6 +60,16 @@ word_flip w i h = ap (bit_xor w) (one_shl i 32 h)
 pub bits_and : (w v : ℕ) → bits_of (bit_and w v) ≡ both (bits_of w) (bits_of v)
 unfolding bits_of
 bits_and w v = fun_ext λ k. let a = bit_at_and w v k in let l = bit_at-lt w k in let m = bit_at-lt v k in grind (arith, nat_tests)
+
+-- the bits of one word that another lacks
+pub bits_outside : (w v : ℕ) → bits_of (bit_and w (bit_xor w v)) ≡ outside (bits_of w) (bits_of v)
+unfolding bits_of
+bits_outside w v = fun_ext λ k.
+    let a = bit_at_and w (bit_xor w v) k in
+    let x = bit_at_xor w v k in
+    let l = bit_at-lt w k in
+    let m = bit_at-lt v k in
+    grind (arith, nat_tests)
 
 -- two words of 32 bits that hold the same numbers are the same
 pub same_bits : (w v : ℕ) → w < 2 ^ 32 → v < 2 ^ 32 → bits_of w ≡ bits_of v → w ≡ v

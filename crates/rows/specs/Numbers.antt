@@ -23,6 +23,10 @@ without_number s n = λ k. not (n == k) && s k
 abbrev pub both : (ℕ → Bool) → (ℕ → Bool) → (ℕ → Bool)
 both s t = λ k. s k && t k
 
+-- the numbers of s that are not in t
+abbrev pub outside : (ℕ → Bool) → (ℕ → Bool) → (ℕ → Bool)
+outside s t = λ k. s k && not (t k)
+
 -- the numbers of s that are not below n
 abbrev pub beyond : (ℕ → Bool) → ℕ → (ℕ → Bool)
 beyond s n = λ k. nat_le n k && s k

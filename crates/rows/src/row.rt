@@ -1,7 +1,7 @@
 ghost use Rattle.std.specs.Prelude.{◌≡◌, ℕ, ◌<◌, Bool, not, ◌&&◌, if◌then◌else◌, Decides, nat_eq};
 ghost use Rattle.search.specs.Below.{some_below, all_below};
 ghost use Rattle.search.specs.Firsts.{first_below};
-ghost use Rattle.rows.specs.Numbers.{in_row, no_numbers, with_number, without_number, both, beyond, within, agree, two_below};
+ghost use Rattle.rows.specs.Numbers.{in_row, no_numbers, with_number, without_number, both, outside, beyond, within, agree, two_below};
 ghost use Rattle.rows.specs.Rows.{numbers, empty_row, row_flipped, row_with};
 
 // The numbers that a set can hold are below this.
@@ -73,6 +73,15 @@ impl Row {
         }
     }
 
+    // The numbers of this set that are not in the other.
+    pub fn without(self, other: Row) -> Row
+        ensures { numbers result ≡ outside (numbers self) (numbers other) }
+    {
+        Row {
+            bits: self.bits & (self.bits ^ other.bits),
+        }
+    }
+
     // The least number in the set.
     pub fn first(self) -> Option<u32>
         ensures { result ≡ first_below (numbers self) 32 }
@@ -109,7 +118,7 @@ impl Row {
     pub fn is_within(self, other: Row) -> bool
         ensures { result ≡ all_below (within (numbers self) (numbers other)) 32 }
     {
-        self.and(other) == self
+        self.and(other).equals(self)
     }
 
     // Whether the two sets hold the same numbers: `==`, said of the numbers and not of the bits.

@@ -4,6 +4,7 @@
 
 mod laws;
 mod replaying;
+mod sound;
 
 pub use laws::{
     answers_follow_the_rules, changes_came_under_lease, counts_add_up, history_tells_the_state,
@@ -11,3 +12,4 @@ pub use laws::{
     uses_had_a_path,
 };
 pub use replaying::{Machine, replay};
+pub use sound::{SoundMachine, replay_sound};

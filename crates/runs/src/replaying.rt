@@ -4,6 +4,7 @@ ghost use Rattle.rules.specs.States.{State};
 ghost use Rattle.rules.specs.Judging.{judge, after};
 ghost use Rattle.runs.specs.Law.{Replayed};
 
+use crate::sound::replay_sound;
 use refusals::Answer;
 use rules::{Call, Event};
 use std::alloc::{AllocError, Global};
@@ -20,7 +21,7 @@ pub trait Machine {
         ensures same { draft self.new ≡ draft self.old };
 }
 
-// Makes the calls one after another, and gives their history.
+// Makes the calls one after another, and gives their history: that of a machine which is sound in every state.
 // Where memory for it is short, no call is made and the machine is as it was.
 pub fn replay<M: Machine>(
     heap: Global,
@@ -30,14 +31,5 @@ pub fn replay<M: Machine>(
     ensures same { M.draft machine.new ≡ M.draft machine.old }
     ensures run { MatchResult result (λ v. Replayed (M.draft machine.old) (M.state machine.old) calls.now v.items (M.state machine.new)) (λ _. machine.new ≡ machine.old) }
 {
-    let mut history = Vec::with_capacity(heap, calls.len())?;
-    // Not a collect: its memory could turn out short when calls are already made.
-    for call in calls {
-        let answer = machine.answer(*call);
-        history.push_reserved(Event {
-            call: *call,
-            answer,
-        });
-    }
-    Ok(history)
+    replay_sound(heap, machine, calls)
 }

@@ -1,15 +1,17 @@
 -- A field by the column at its place and the value there.
-use Rattle.std.proofs.Common.{◌≡◌, ℕ, ◌+◌, true, ◌⊎◌, List, Some, None, Option, unwrap_or, sym, refl, ap, ◌∙◌, ap₂, ⊎_elim}
+use Rattle.std.proofs.Common.{◌≡◌, ℕ, ◌+◌, true, ◌&&◌, ◌⊎◌, List, Some, None, Option, is_some, unwrap_or, sym, refl, ap, ◌∙◌, ap₂, ⊎_elim}
 use Rattle.forms.specs.Fields.{value_at_lem}
 use Rattle.kinds.specs.Columns.{column_at, permission_place_lem}
 use Rattle.kinds.specs.declared.column.Column.{Column}
 use Rattle.kinds.specs.declared.column.Column.TheVariants.{New, Number, Flag}
 use Rattle.kinds.specs.declared.column.NameTable.{NameTable}
+use Rattle.kinds.specs.declared.column.NameTable.TheVariants.{Things}
 use Rattle.kinds.specs.declared.kind.Kind.{Kind}
 use Rattle.tables.specs.Drafts.{permission_of}
 use Rattle.tables.specs.declared.draft.Draft.{Draft}
-use Rattle.sheets.specs.Numbers.{Lists, or_zero, number_in, number_at, formed}
-use Rattle.sheets.specs.Judging.{known_in, known_at}
+use Rattle.tables.specs.declared.table.Thing.TheVariants.{Device, Operation}
+use Rattle.sheets.specs.Numbers.{Lists, or_zero, named, number_in, number_at, formed}
+use Rattle.sheets.specs.Judging.{known_in, known_at, permitted}
 
 pub zero_or : (o : Option ℕ) → unwrap_or o 0 ≡ or_zero o
 zero_or (Some n) = refl
@@ -44,3 +46,11 @@ module _ (ls : Lists) (d : Draft) (k : Kind) (vs : List (List ℕ)) where
   pub formed_by : (i a b : ℕ) → Some i ≡ permission_place_lem k → a ≡ number_at ls k vs i → b ≡ number_at ls k vs (i + 1) → permission_of d a b ≡ formed ls d k vs
   unfolding formed
   formed_by i a b e p q = rw (sym e) (ap₂ (permission_of d) p q)
+
+-- the device and the operation of a record P, looked up
+module _ (ls : Lists) (d : Draft) (vs : List (List ℕ)) where
+  pub permitted_by : (a b : Option ℕ) (v w : List ℕ) → v ≡ value_at_lem vs 0 → w ≡ value_at_lem vs 1 → a ≡ named ls (Things Device) v → b ≡ named ls (Things Operation) w
+      → ((is_some a && is_some b) && is_some (permission_of d (or_zero a) (or_zero b))) ≡ permitted ls d vs
+  unfolding known_at number_at
+  permitted_by a b v w e f p q =
+      ap₂ (λ x y. (is_some x && is_some y) && is_some (permission_of d (or_zero x) (or_zero y))) (p ∙ ap (named ls (Things Device)) e) (q ∙ ap (named ls (Things Operation)) f)

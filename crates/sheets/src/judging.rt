@@ -1,7 +1,6 @@
 // The reasons for which a record of a known kind is refused before it does anything.
 ghost use Rattle.std.specs.Prelude.{◌≡◌};
 ghost use Rattle.refusals.specs.Said.{said};
-ghost use Rattle.kinds.specs.declared.kind.Kind.TheVariants.{Permission};
 ghost use Rattle.names.specs.Spellings.{spellings};
 ghost use Rattle.refusals.specs.declared.answer.Answer.TheVariants.{Accepted};
 ghost use Rattle.rules.specs.Judging.{first_reason};
@@ -12,7 +11,7 @@ use forms::Form;
 use kinds::{Column, Kind, NameTable};
 use records::Record;
 use refusals::Refusal;
-use tables::Table;
+use tables::{Table, Thing};
 
 // The list that an accepted record of the kind makes longer.
 fn grows(kind: Kind) -> Option<Table>
@@ -53,16 +52,18 @@ impl Sheet<'_> {
             && (form.kind().permission_place().is_none() || self.formed(form).is_some())
     }
 
-    // Whether the permission of a record `P` is declared.
+    // Whether the permission of a record `P` is declared. Each of its names is looked up once.
     fn is_permitted(&self, form: &Form<'_, '_>) -> bool
-        requires { form.now.kind ≡ Permission }
         ensures { result ≡ permitted (spellings self.now.names) self.now.draft form.now.values }
     {
-        if !(self.is_known(form, 0) && self.is_known(form, 1)) {
+        let devices = NameTable::Things(Thing::Device);
+        let Some(device) = self.names.find(devices, form.value_at(0)) else {
             return false;
-        }
-        let device = self.number(form, 0);
-        let operation = self.number(form, 1);
+        };
+        let operations = NameTable::Things(Thing::Operation);
+        let Some(operation) = self.names.find(operations, form.value_at(1)) else {
+            return false;
+        };
         self.draft.permission_number(device, operation).is_some()
     }
 

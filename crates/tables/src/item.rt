@@ -123,6 +123,6 @@ impl Distinct for RolePair {
     ghost alike = { role_pairs_alike };
 
     fn is_alike(self, other: RolePair) -> bool {
-        self == other
+        self.role == other.role && self.environment_roles.equals(other.environment_roles)
     }
 }

@@ -1,7 +1,7 @@
 // How names are read from a text and told apart.
 ghost use Rattle.std.specs.Prelude.{◌≡◌, codes};
 ghost use Rattle.values.specs.Letters.{letter};
-ghost use Rattle.values.specs.Names.{spells_name, Named, spelling, same_spelling};
+ghost use Rattle.values.specs.Names.{Named, spelling, same_spelling};
 ghost use Rattle.values.specs.Sameness;
 
 use crate::name::{LONGEST, Name};
@@ -10,13 +10,7 @@ use index_set::Same;
 fn is_letter(b: u8) -> bool
     ensures { result ≡ letter b }
 {
-    b.is_ascii_alphanumeric() || b == b'_'
-}
-
-fn spells_name(part: &[u8]) -> bool
-    ensures { result ≡ spells_name part.now }
-{
-    (1..=LONGEST).contains(&part.len()) && part.iter().all(|&b| is_letter(b))
+    matches!(b, b'a'..=b'z' | b'A'..=b'Z' | b'0'..=b'9' | b'_')
 }
 
 impl Name {
@@ -24,13 +18,20 @@ impl Name {
     pub fn new(part: &[u8]) -> Option<Name>
         ensures { Named part.now result }
     {
-        if !spells_name(part) {
+        if part.is_empty() || part.len() > LONGEST {
             return None;
         }
-        let len = part.len();
         let mut bytes = [0; LONGEST];
-        bytes[..len].copy_from_slice(part);
-        Some(Name { bytes, len })
+        for (place, &byte) in part.iter().enumerate() {
+            if !is_letter(byte) {
+                return None;
+            }
+            bytes[place] = byte;
+        }
+        Some(Name {
+            bytes,
+            len: part.len(),
+        })
     }
 
     // A name to fill memory with that is lent for names: `_`.
